@@ -1,0 +1,69 @@
+-- What a text makes of a draft's instructions, line by line, or its first fault.
+use mathlib.Core.Path.{_≡_}
+use mathlib.Core.Bool.{cond}
+use mathlib.Core.List.{List, [], _∷_}
+use Prim.Native.Nat.{ℕ, _+_, _≤_}
+use lib.Dec.{eqb, ltb}
+use lib.ListN.{length}
+use Rattle.std.specs.declared.option.Option.{Option}
+use Rattle.std.specs.declared.option.Option.the-variants.{Some, None}
+use Rattle.std.specs.declared.result.Result.{Result}
+use Rattle.std.specs.declared.result.Result.the-variants.{Ok, Err}
+use Rattle.traces.specs.declared.entry.Instruction.{Instruction}
+use Rattle.traces.specs.declared.entry.Refusal.{Refusal}
+use Rattle.traces.specs.declared.entry.Refusal.the-variants.{UnknownKind, TooManyEntries, TooManyThreads, TooManyAddresses}
+use Rattle.traces.specs.Adding.{admitted}
+use Rattle.text.specs.declared.statement.Statement.{Statement}
+use Rattle.text.specs.declared.fault.Cause.{Cause}
+use Rattle.text.specs.declared.fault.Cause.the-variants.{TooLong, Trace}
+use Rattle.text.specs.declared.fault.Fault.{Fault}
+use Rattle.text.specs.Grammar.{Text}
+use Rattle.text.specs.Lines.{andThen, instructionOf, lineFrom, startOf}
+
+abbrev pub intoFirst : ℕ → List (List ℕ) → List (List ℕ)
+intoFirst b [] = (b ∷ []) ∷ []
+intoFirst b (l ∷ ls) = (b ∷ l) ∷ ls
+
+-- the lines of a text: each ends with byte 10, which the last may lack
+unfoldable pub linesOf : List ℕ → List (List ℕ)
+linesOf [] = []
+linesOf (b ∷ bs) = cond (eqb b 10) ([] ∷ linesOf bs) (intoFirst b (linesOf bs))
+
+-- where a draft's refusal of a statement is placed: at the thread number, or at the first address
+abbrev pub columnOf : Refusal → Statement → ℕ
+columnOf UnknownKind s = s .fields .«thread_column»
+columnOf TooManyEntries s = s .fields .«thread_column»
+columnOf TooManyThreads s = s .fields .«thread_column»
+columnOf TooManyAddresses s = s .fields .«address_column»
+
+abbrev pub placedIn : ℕ → Statement → Result (List Instruction) Refusal → Result (List Instruction) Fault
+placedIn n s (Ok is) = Ok is
+placedIn n s (Err e) = Err (record { cause = Trace e; line = n; column = columnOf e s })
+
+-- the instructions with what the line n states
+abbrev pub entered : ℕ → List Instruction → Option Statement → Result (List Instruction) Fault
+entered n is None = Ok is
+entered n is (Some s) = placedIn n s (admitted is (instructionOf s))
+
+-- what the line n makes of the instructions
+abbrev pub lineRead : ℕ → List Instruction → List ℕ → Result (List Instruction) Fault
+lineRead n is bs = andThen (lineFrom (startOf n bs)) (entered n is)
+
+-- what lines make of the instructions, the first of them the line n
+unfoldable pub linesRead : ℕ → List Instruction → List (List ℕ) → Result (List Instruction) Fault
+linesRead n is [] = Ok is
+linesRead n is (l ∷ ls) = andThen (lineRead n is l) (λ js. linesRead (n + 1) js ls)
+
+-- what a text makes of the instructions, or its first fault
+abbrev pub textRead : List Instruction → List ℕ → Result (List Instruction) Fault
+textRead is bs = cond (ltb 16384 (length bs)) (Err (record { cause = TooLong; line = 0; column = 0 })) (linesRead 1 is (linesOf bs))
+
+-- the instructions js added behind is, one after the other
+abbrev pub admittedAll : List Instruction → List Instruction → Result (List Instruction) Refusal
+admittedAll is [] = Ok is
+admittedAll is (j ∷ js) = andThen (admitted is j) (λ ks. admittedAll ks js)
+
+-- a text can be read behind the instructions `before`, which gives `after`:
+-- it is short enough, it is of the format, and what it states can be added in sequence
+abbrev pub Readable : List Instruction → List ℕ → List Instruction → Type 0
+Readable before bs after = (length bs ≤ 16384) × ((is : List Instruction) × (Text bs is × (admittedAll before is ≡ Ok after)))

@@ -1,0 +1,4 @@
+pub mod Admitting
+pub mod Holding
+pub mod Slotting
+pub mod Stating
