@@ -1,5 +1,6 @@
 pub mod Faults
 pub mod Grammar
 pub mod Lines
+pub mod Places
 pub mod Texts
 pub mod Tokens

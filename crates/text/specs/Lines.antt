@@ -20,7 +20,7 @@ use Rattle.text.specs.declared.statement.Part.the-variants.{Thread, Address, S
 use Rattle.text.specs.declared.statement.Fields.{Fields}
 use Rattle.text.specs.declared.statement.Statement.{Statement}
 use Rattle.text.specs.declared.fault.Cause.{Cause}
-use Rattle.text.specs.declared.fault.Cause.the-variants.{Misfit, TooLarge, OtherAddress}
+use Rattle.text.specs.declared.fault.Cause.the-variants.{TooLong, Misfit, TooLarge, OtherAddress}
 use Rattle.text.specs.declared.fault.Fault.{Fault}
 use Rattle.text.specs.Tokens.{Tok, number, fixed, ends, unknown, At, skipped, nextToken, past}
 use Rattle.text.specs.Grammar.{decimal}
@@ -168,3 +168,7 @@ startOf n bs = record { line = n; column = 1; rest = bs }
 -- the instruction of a statement
 abbrev pub instructionOf : Statement → Instruction
 instructionOf s = instruction (s .fields .thread) (s .kind) (s .fields .address) (s .fields .read) (s .fields .written)
+
+-- the fault of a text that is too long
+abbrev pub tooLong : Fault
+tooLong = record { cause = TooLong; line = 0; column = 0 }

@@ -15,10 +15,10 @@ use Rattle.traces.specs.declared.entry.Refusal.the-variants.{UnknownKind, TooMa
 use Rattle.traces.specs.Adding.{admitted}
 use Rattle.text.specs.declared.statement.Statement.{Statement}
 use Rattle.text.specs.declared.fault.Cause.{Cause}
-use Rattle.text.specs.declared.fault.Cause.the-variants.{TooLong, Trace}
+use Rattle.text.specs.declared.fault.Cause.the-variants.{Trace}
 use Rattle.text.specs.declared.fault.Fault.{Fault}
 use Rattle.text.specs.Grammar.{Text}
-use Rattle.text.specs.Lines.{andThen, instructionOf, lineFrom, startOf}
+use Rattle.text.specs.Lines.{andThen, instructionOf, lineFrom, startOf, tooLong}
 
 abbrev pub intoFirst : ℕ → List (List ℕ) → List (List ℕ)
 intoFirst b [] = (b ∷ []) ∷ []
@@ -56,7 +56,7 @@ linesRead n is (l ∷ ls) = andThen (lineRead n is l) (λ js. linesRead (n + 1) 
 
 -- what a text makes of the instructions, or its first fault
 abbrev pub textRead : List Instruction → List ℕ → Result (List Instruction) Fault
-textRead is bs = cond (ltb 16384 (length bs)) (Err (record { cause = TooLong; line = 0; column = 0 })) (linesRead 1 is (linesOf bs))
+textRead is bs = cond (ltb 16384 (length bs)) (Err tooLong) (linesRead 1 is (linesOf bs))
 
 -- the instructions js added behind is, one after the other
 abbrev pub admittedAll : List Instruction → List Instruction → Result (List Instruction) Refusal

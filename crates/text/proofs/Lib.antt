@@ -1,0 +1,11 @@
+pub mod Counting
+pub mod Decimals
+pub mod Fits
+pub mod Forms
+pub mod Fronts
+pub mod Gaps
+pub mod Longest
+pub mod Moving
+pub mod Parting
+pub mod Readings
+pub mod Splitting

@@ -1,0 +1,14 @@
+use mathlib.Core.Path.{refl, ap}
+use Prim.Native.Nat.{_+_}
+use Rattle.text.specs.Tokens.{At}
+use Rattle.text.proofs.Moving.{take-moved}
+use Rattle.text.proofs.reader.Reader.advance.Needs as need
+
+pub returns : need.returns
+returns c =
+    let r = c .args .self .now in
+    record {
+      at = ap (λ l. record { line = r .line; column = r .column + c .args .width; rest = l }) (take-moved (r .text .now) (r .place) (r .«line_end») (c .args .width) (c .pre));
+      behind = refl;
+      end = refl;
+    }
