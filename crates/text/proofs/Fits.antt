@@ -19,11 +19,11 @@ use Rattle.text.specs.declared.statement.Part.the-variants.{Thread, Address as
 use Rattle.text.specs.declared.statement.Fields.{Fields}
 use Rattle.text.specs.declared.fault.Cause.{Cause}
 use Rattle.text.specs.declared.fault.Cause.the-variants.{Misfit, OtherAddress}
-use Rattle.text.specs.Tokens.{Tok, number, fixed, ends, unknown, At, skipped, nextToken, past}
-use Rattle.text.specs.Grammar.{Tokens, Writes, decimal}
+use Rattle.text.specs.Tokens.{Tok, number, fixed, ends, unknown, token, At, skipped, nextToken, past}
+use Rattle.text.specs.Grammar.{Spells, Tokens, Writes, decimal}
 use Rattle.text.specs.Lines.{andThen, orTooLarge, numberIn, code, isSymbol, isEnd, put, accepted, placed, parts}
 use Rattle.text.proofs.Gaps.{beyond-end, tokens-end, tokens-nil, tokens-more, tokens-next, tokens-none}
-use Rattle.text.proofs.Longest.{token-fixed, token-number}
+use Rattle.text.proofs.Longest.{token-digits, token-fixed, token-number}
 
 -- what is made of the fields of a line: the thread, the address, and the values read and written
 abbrev pub Values : Type 0
@@ -91,19 +91,22 @@ parts-next p ps f g a h = ap (λ r. andThen (placed (skipped a) r) (λ g. parts 
 
 -- digits that write a number give it
 writes-in : (ds : List ℕ) (n : ℕ) → Writes ds n → numberIn (number ds) ≡ Ok n
-writes-in ds n w = ap orTooLarge (cond-true _ _ _ (lt-ltb (decimal 0 ds) (2 ^ 64) (omega arith))) ∙ ap Ok (w .0)
+writes-in ds n w = ap orTooLarge (cond-true _ _ _ (lt-ltb (decimal 0 ds) (2 ^ 64) (omega arith))) ∙ ap Ok (w .1)
 
--- the same by whether the number has 64 bits
-value-writes : (ds : List ℕ) (b : Bool) (n : ℕ) → ltb (decimal 0 ds) (2 ^ 64) ≡ b → orTooLarge (cond b (Some (decimal 0 ds)) None) ≡ Ok n → Writes ds n
-value-writes ds true n e h = let k : decimal 0 ds ≡ n = cc in (k, subst (λ m. m < 2 ^ 64) k (ltb-true (decimal 0 ds) (2 ^ 64) e))
-value-writes ds false n e h = absurd (no-ok _ n h)
+-- a number that is given is written by its digits, by whether it has 64 bits
+value-writes : (ds : List ℕ) (b : Bool) (n : ℕ) → Spells ds (number ds) → ltb (decimal 0 ds) (2 ^ 64) ≡ b → orTooLarge (cond b (Some (decimal 0 ds)) None) ≡ Ok n → Writes ds n
+value-writes ds true n s e h = let k : decimal 0 ds ≡ n = cc in (s, k, subst (λ m. m < 2 ^ 64) k (ltb-true (decimal 0 ds) (2 ^ 64) e))
+value-writes ds false n s e h = absurd (no-ok _ n h)
 
--- a number that is given is written by the token's digits
-pub in-writes : (t : Tok) (n : ℕ) → numberIn t ≡ Ok n → (ds : List ℕ) × (t ≡ number ds) × Writes ds n
-in-writes (number ds) n h = (ds, refl, value-writes ds (ltb (decimal 0 ds) (2 ^ 64)) n refl h)
-in-writes (fixed s) n h = absurd (no-ok _ n h)
-in-writes ends n h = absurd (no-ok _ n h)
-in-writes unknown n h = absurd (no-ok _ n h)
+-- a number that is given is written by the digits of the token that is read
+pub in-writes : (bs : List ℕ) (n : ℕ) → numberIn (token bs) ≡ Ok n → (ds : List ℕ) × (token bs ≡ number ds) × Writes ds n
+in-writes bs n = go (token bs) refl
+  where
+    go : (t : Tok) → token bs ≡ t → numberIn t ≡ Ok n → (ds : List ℕ) × (token bs ≡ number ds) × Writes ds n
+    go (number ds) e h = (ds, e, value-writes ds (ltb (decimal 0 ds) (2 ^ 64)) n (token-digits bs ds e) refl h)
+    go (fixed s) e h = absurd (no-ok _ n h)
+    go ends e h = absurd (no-ok _ n h)
+    go unknown e h = absurd (no-ok _ n h)
 
 -- the symbol with a number
 symbolOf : ℕ → Symbol
@@ -172,7 +175,7 @@ module _ (ps : List Part) (f g : Fields) (a b : At) (on : (h : Fields) → parts
   fits-symbol s h =
       let k = symbol-first s ps f a (g, b) h in
       let r = on f (k .1) in
-      (fixed s ∷ r .0, fit-symbol (r .1), tokens-more (a .rest) (fixed s) (r .0) (k .0) (token-fixed (skipped a .rest) s (k .0)) (r .2))
+      (fixed s ∷ r .0, fit-symbol (r .1), tokens-more (a .rest) (fixed s) (r .0) (token-fixed (skipped a .rest) s (k .0)) (r .2))
 
   -- parts behind the end
   fits-end : parts (LineEnd ∷ ps) f a ≡ Ok (g, b) → Fitting (LineEnd ∷ ps) (values f) (values g) (a .rest)
@@ -189,9 +192,9 @@ module _ (ps : List Part) (f g : Fields) (a b : At) (on : (h : Fields) → parts
   fits-number p e fit h =
       let k = parts-first p ps f a (g, b) h in
       let m = then-ok (numberIn (nextToken a)) (put p f (skipped a .column)) (k .0) (sym (e (skipped a .column) (nextToken a)) ∙ k .1) in
-      let d = in-writes (nextToken a) (m .0) (m .1) in
+      let d = in-writes (skipped a .rest) (m .0) (m .1) in
       let r = on (k .0) (k .2) in
-      (number (d .0) ∷ r .0, fit (skipped a .column) (m .0) (k .0) (d .0) (r .0) (m .2) (d .2) (r .1), tokens-more (a .rest) (number (d .0)) (r .0) (d .1) (token-number (skipped a .rest) (d .0) (d .1)) (r .2))
+      (number (d .0) ∷ r .0, fit (skipped a .column) (m .0) (k .0) (d .0) (r .0) (m .2) (d .2) (r .1), tokens-more (a .rest) (number (d .0)) (r .0) (token-number (skipped a .rest) (d .0) (d .1)) (r .2))
 
 -- parts that are read fit the tokens that stand there, where no token is left
 pub parts-fit : (ps : List Part) (f g : Fields) (a b : At) → parts ps f a ≡ Ok (g, b) → Tokens (b .rest) [] → Fitting ps (values f) (values g) (a .rest)

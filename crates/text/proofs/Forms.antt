@@ -173,7 +173,7 @@ thread-on : (ps : List Part) (f : Fields) (a : At) (x : Fields × At) → parts 
 thread-on ps f a x h =
     let k = parts-first Thread ps f a x h in
     let m = then-ok (numberIn (nextToken a)) (put Thread f (skipped a .column)) (k .0) (k .1) in
-    ap isEnd (in-writes (nextToken a) (m .0) (m .1) .1)
+    ap isEnd (in-writes (skipped a .rest) (m .0) (m .1) .1)
 
 -- the parts of a form are read as a line
 pub form-line : (k : Kind) (a b : At) (g : Fields) → parts (formParts k) noFields a ≡ Ok (g, b) → lineFrom a ≡ Ok (Some (record { kind = k; fields = g }))

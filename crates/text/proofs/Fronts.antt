@@ -27,7 +27,7 @@ module _ (test : ℕ → Bool) where
   front-behind [] ys a = omega arith
   front-behind (x ∷ xs) ys a = let h = front-behind xs ys (a .1) in cond-true _ _ _ (a .0) ∙ omega arith
 
-  -- the same of one more byte, by whether it passes
+  -- one more byte in front, by whether it passes: each byte of the front passes
   passes-step : (x : ℕ) (xs : List ℕ) (t : Bool) → test x ≡ t → All (λ b. test b ≡ true) (take (front test xs) xs) → All (λ b. test b ≡ true) (take (cond t (suc (front test xs)) 0) (x ∷ xs))
   passes-step x xs true e h = (e, h)
   passes-step x xs false e h = tt
@@ -37,7 +37,7 @@ module _ (test : ℕ → Bool) where
   front-passes [] = tt
   front-passes (x ∷ xs) = passes-step x xs (test x) refl (front-passes xs)
 
-  -- the same of one more byte, by whether it passes
+  -- one more byte in front, by whether it passes: the byte behind the front does not pass
   stops-step : (x : ℕ) (xs : List ℕ) (t : Bool) → test x ≡ t → test (getD (drop (front test xs) xs) 0 0) ≡ false → test (getD (drop (cond t (suc (front test xs)) 0) (x ∷ xs)) 0 0) ≡ false
   stops-step x xs true e h = h
   stops-step x xs false e h = e

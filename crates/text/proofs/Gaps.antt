@@ -8,10 +8,10 @@ use lib.Dec.{eqb}
 use lib.ListN.{length, getD, take, drop}
 use Rattle.std.proofs.shelf.Elements.{all-weaker}
 use Rattle.std.proofs.shelf.Lists.{append-nil, take-append-drop, drop-at, drop-all}
-use Rattle.std.proofs.shelf.Tests.{eqb-true, eq-eqb, ne-eqb}
+use Rattle.std.proofs.shelf.Tests.{eqb-true, eqb-false, eq-eqb, ne-eqb}
 use Rattle.text.specs.Tokens.{Tok, ends, token, width, spaces}
 use Rattle.text.specs.Grammar.{Begins, Spaces, Tokens, done, more}
-use Rattle.text.proofs.Fronts.{front-behind, front-none, front-passes}
+use Rattle.text.proofs.Fronts.{front-behind, front-none, front-passes, front-stops}
 use Rattle.text.proofs.Longest.{begins-token, spells-some, spells-width, token-ends, token-plain, token-unknown}
 
 -- the bytes past the spaces
@@ -27,8 +27,12 @@ abbrev pub beyond : List ℕ → List ℕ
 beyond bs = drop (width (ahead bs)) (unspaced bs)
 
 -- what is skipped is spaces
-gap-spaces : (bs : List ℕ) → Spaces (take (spaces bs) bs)
+pub gap-spaces : (bs : List ℕ) → Spaces (take (spaces bs) bs)
 gap-spaces bs = all-weaker (λ b. eqb b 32 ≡ true) (λ b. b ≡ 32) (λ b e. eqb-true b 32 e) (take (spaces bs) bs) (front-passes (λ b. eqb b 32) bs)
+
+-- no space is left behind what is skipped
+pub gap-stops : (bs : List ℕ) → getD (unspaced bs) 0 0 ≡ 32 → ⊥
+gap-stops bs = eqb-false (getD (unspaced bs) 0 0) 32 (front-stops (λ b. eqb b 32) bs refl)
 
 -- a gap is skipped whole, and then what else is skipped
 spaces-behind : (gap bs : List ℕ) → Spaces gap → spaces (gap ++ bs) ≡ length gap + spaces bs
@@ -74,10 +78,10 @@ pub beyond-end : (bs : List ℕ) → ahead bs ≡ ends → beyond bs ≡ []
 beyond-end bs e = ap (λ t. drop (width t) (unspaced bs)) e ∙ token-ends (unspaced bs) e
 
 -- a token that is read, and the tokens past it
-pub tokens-more : (bs : List ℕ) (t : Tok) (ts : List Tok) → ahead bs ≡ t → Begins (unspaced bs) t (drop (width t) (unspaced bs)) → Tokens (beyond bs) ts → Tokens bs (t ∷ ts)
-tokens-more bs t ts e b h =
+pub tokens-more : (bs : List ℕ) (t : Tok) (ts : List Tok) → Begins (unspaced bs) t (beyond bs) → Tokens (beyond bs) ts → Tokens bs (t ∷ ts)
+tokens-more bs t ts b h =
     subst (λ l. Tokens l (t ∷ ts)) (take-append-drop (spaces bs) bs)
-    (more (take (spaces bs) bs) (unspaced bs) (drop (width t) (unspaced bs)) (gap-spaces bs) b (subst (λ u. Tokens (drop (width u) (unspaced bs)) ts) e h))
+    (more (take (spaces bs) bs) (unspaced bs) (beyond bs) (gap-spaces bs) b h)
 
 -- no bytes are no tokens
 pub tokens-nil : (ts : List Tok) → Tokens [] ts → ts ≡ []

@@ -1,11 +1,16 @@
+pub mod Columns
 pub mod Counting
 pub mod Decimals
+pub mod Faulting
 pub mod Fits
 pub mod Forms
 pub mod Fronts
 pub mod Gaps
+pub mod Likes
 pub mod Longest
 pub mod Moving
 pub mod Parting
+pub mod Reaching
 pub mod Readings
 pub mod Splitting
+pub mod Wants

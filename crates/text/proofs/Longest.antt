@@ -2,7 +2,7 @@
 use mathlib.Core.Path.{_≡_, refl, sym, ap, subst, _∙_}
 use mathlib.Core.Bool.{Bool, true, false, cond}
 use mathlib.Core.List.{List, [], _∷_, _++_}
-use Prim.Native.Nat.{ℕ, _+_, _≤_, _<_}
+use Prim.Native.Nat.{ℕ, _≤_, _<_}
 use native.Mathlib.Omega.{arith}
 use lib.Dec.{eqb, ltb, lit<, lit≤}
 use lib.ListN.{length, take, drop}
@@ -160,20 +160,24 @@ module _ (bs : List ℕ) where
   none-longer w u r s e = subst (λ l. length w ≤ width (token l)) (sym e) (token-least w u r s)
 
   -- what is read stands at the front, as long as possible
-  begins-by : (t : Tok) (w : List ℕ) → token bs ≡ t → Spells w t → bs ≡ w ++ drop (width t) bs → Begins bs t (drop (width t) bs)
+  begins-by : (t : Tok) (w : List ℕ) → token bs ≡ t → Spells w t → bs ≡ w ++ drop (width t) bs → Begins bs t (drop (width (token bs)) bs)
   begins-by t w e s h = record {
     spelled = w;
     spells = s;
-    whole = h;
+    whole = h ∙ ap (λ u. w ++ drop (width u) bs) (sym e);
     longest = λ v u r q k. omega (arith, none-longer v u r q k, ap width e, spells-width w t s);
   }
 
+  -- what is read as a number is a run of digits
+  pub token-digits : (ds : List ℕ) → token bs ≡ number ds → Spells ds (number ds)
+  token-digits ds e = let f : Found bs (number ds) = subst (Found bs) e (found bs) in f .0
+
   -- where a number is read, the bytes begin with it
-  pub token-number : (ds : List ℕ) → token bs ≡ number ds → Begins bs (number ds) (drop (length ds) bs)
+  pub token-number : (ds : List ℕ) → token bs ≡ number ds → Begins bs (number ds) (drop (width (token bs)) bs)
   token-number ds e = let f : Found bs (number ds) = subst (Found bs) e (found bs) in begins-by (number ds) ds e (f .0) (f .1)
 
   -- where a symbol is read, the bytes begin with it
-  pub token-fixed : (s : Symbol) → token bs ≡ fixed s → Begins bs (fixed s) (drop (symbolWidth s) bs)
+  pub token-fixed : (s : Symbol) → token bs ≡ fixed s → Begins bs (fixed s) (drop (width (token bs)) bs)
   token-fixed s e = begins-by (fixed s) (spelling s) e a-symbol (subst (Found bs) e (found bs))
 
   -- where the end is read, there are no bytes
@@ -188,7 +192,7 @@ module _ (bs : List ℕ) where
   )
 
   -- what is read begins the bytes, where it has some byte
-  read-begins : (t : Tok) → token bs ≡ t → 0 < width t → Begins bs t (drop (width t) bs)
+  read-begins : (t : Tok) → token bs ≡ t → 0 < width t → Begins bs t (drop (width (token bs)) bs)
   read-begins (number ds) e l = token-number ds e
   read-begins (fixed s) e l = token-fixed s e
   read-begins ends e l = absurd (omega arith)

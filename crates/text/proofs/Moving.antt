@@ -6,14 +6,19 @@ use mathlib.Core.List.{List, [], _∷_}
 use Prim.Native.Nat.{ℕ, zero, suc, _+_, _-_, _≤_, _<_}
 use native.Mathlib.Numerals.{add-one}
 use native.Mathlib.Omega.{arith}
-use lib.Dec.{eqb, leb}
+use lib.Dec.{eqb, leb, ltb}
 use lib.ListN.{length, getD, take, drop}
 use Rattle.std.specs.Orderings.{Decides}
+use Rattle.std.specs.declared.option.Option.{Option}
 use Rattle.std.specs.declared.option.Option.the-variants.{Some, None}
 use Rattle.std.proofs.shelf.Lists.{drop-drop, drop-all, drop-take, length-drop, take-rest}
-use Rattle.std.proofs.shelf.Tests.{cond-true, cond-false, cases-bool, cases-lt, eq-eqb, ne-eqb, le-leb, lt-leb, both-ways}
+use Rattle.std.proofs.shelf.Tests.{cond-true, cond-false, cases-bool, cases-eq, cases-lt, eq-eqb, ne-eqb, le-leb, lt-leb, both-ways}
 use Rattle.traces.specs.First.{First}
+use Rattle.text.specs.declared.token.Symbol.{Symbol}
+use Rattle.text.specs.Lines.{isEnd}
 use Rattle.text.specs.Places.{firstLine, behindFirst}
+use Rattle.text.specs.Tokens.{number, orUnknown, token, digits, spaces, symbolAt}
+use Rattle.text.proofs.Fronts.{front-le}
 
 -- the first line feed ends the first line
 pub line-found : (bs : List ℕ) (i : ℕ) → i < length bs → getD bs i 0 ≡ 10 → ((k : ℕ) → k < i → getD bs k 0 ≡ 10 → ⊥) → length (firstLine bs) ≡ i
@@ -102,3 +107,29 @@ none-left t place =
 -- nothing is left behind a text
 pub drop-past : (t : List ℕ) (n : ℕ) → length t ≤ n → (drop n t ≡ drop (n + 1) t) × (length (drop (n + 1) t) ≡ 0)
 drop-past t n h = (drop-all n t h ∙ sym (drop-all (n + 1) t (omega arith)), ap length (drop-all (n + 1) t (omega arith)))
+
+symbol-no-end : (o : Option Symbol) → isEnd (orUnknown o) ≡ false
+symbol-no-end None = refl
+symbol-no-end (Some s) = refl
+
+number-no-end : (b : Bool) (ds : List ℕ) (o : Option Symbol) → isEnd (cond b (number ds) (orUnknown o)) ≡ false
+number-no-end true ds o = refl
+number-no-end false ds o = symbol-no-end o
+
+-- only where nothing is left there is no token
+pub end-none : (bs : List ℕ) → isEnd (token bs) ≡ eqb (length bs) 0
+end-none bs =
+    ⊎-elim
+    (λ t. ap isEnd (cond-true _ _ _ t) ∙ sym t)
+    (λ f. ap isEnd (cond-false _ _ _ f) ∙ number-no-end (ltb 0 (digits bs)) (take (digits bs) bs) (symbolAt bs) ∙ sym f)
+    (cases-bool (eqb (length bs) 0))
+
+-- a line is blank where it has as many spaces in front as bytes
+pub blank-end : (bs : List ℕ) → eqb (spaces bs) (length bs) ≡ isEnd (token (drop (spaces bs) bs))
+blank-end bs =
+    let le = front-le (λ b. eqb b 32) bs in
+    let l = length-drop (spaces bs) bs in
+    ⊎-elim
+    (λ same. eq-eqb (spaces bs) (length bs) same ∙ sym (end-none (drop (spaces bs) bs) ∙ eq-eqb (length (drop (spaces bs) bs)) 0 (omega arith)))
+    (λ apart. ne-eqb (spaces bs) (length bs) apart ∙ sym (end-none (drop (spaces bs) bs) ∙ ne-eqb (length (drop (spaces bs) bs)) 0 (λ z. apart (omega arith))))
+    (cases-eq (spaces bs) (length bs))

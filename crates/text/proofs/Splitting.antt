@@ -1,4 +1,4 @@
--- A text and its lines.
+-- A text is made of its lines, which are the bytes between those that end a line.
 use mathlib.Core.Path.{_≡_, refl, sym, ap, subst, _∙_}
 use mathlib.Core.Bool.{Bool, true, false, cond}
 use mathlib.Core.List.{List, [], _∷_, _++_}

@@ -52,9 +52,9 @@ abbrev pub decimal : ℕ → List ℕ → ℕ
 decimal n [] = n
 decimal n (b ∷ bs) = decimal (n * 10 + (b - 48)) bs
 
--- the digits ds write the number n, which has 64 bits
+-- ds is a run of digits, and writes the number n, which has 64 bits
 abbrev pub Writes : List ℕ → ℕ → Type 0
-Writes ds n = (decimal 0 ds ≡ n) × (n < 2 ^ 64)
+Writes ds n = Spells ds (number ds) × (decimal 0 ds ≡ n) × (n < 2 ^ 64)
 
 -- the tokens of a line, and the instruction that they state
 pub data States : List Tok → Instruction → Type 0 where

@@ -67,3 +67,8 @@ admittedAll is (j ∷ js) = andThen (admitted is j) (λ ks. admittedAll ks js)
 -- it is short enough, it is of the format, and what it states can be added in sequence
 abbrev pub Readable : List Instruction → List ℕ → List Instruction → Type 0
 Readable before bs after = (length bs ≤ 16384) × ((is : List Instruction) × (Text bs is × (admittedAll before is ≡ Ok after)))
+
+-- what adding a statement answers, and which instructions it leaves of those before it
+abbrev pub Enters : List Instruction → Statement → Result (Unit {0}) Cause → List Instruction → Type 0
+Enters before s (Ok _) after = admitted before (instructionOf s) ≡ Ok after
+Enters before s (Err e) after = ((refusal : Refusal) × (e ≡ Trace refusal) × (admitted before (instructionOf s) ≡ Err refusal)) × (after ≡ before)

@@ -4,6 +4,7 @@ ghost use Prim.Native.Nat.{_+_, _<_, _≤_};
 ghost use lib.Dec.{eqb};
 ghost use lib.ListN.{length, drop};
 ghost use Rattle.std.specs.Options.{Cases as BySome, mapped};
+ghost use Rattle.text.specs.Lines.{isEnd};
 ghost use Rattle.text.specs.Places.{SameLine, Starts, at, behind, firstLine, left, tok};
 ghost use Rattle.text.specs.Tokens.{digits, nextToken, on, past, skipped, spaces, symbolAt, symbolWidth, token, width};
 use crate::reader::Reader;
@@ -136,6 +137,14 @@ impl<'a> Reader<'a> {
     {
         self.place += width;
         self.column += width;
+    }
+
+    // Whether nothing but spaces is left of the line.
+    pub(crate) fn is_blank(&self) -> bool
+        ensures { λ r. ⌜ r ≡ isEnd (nextToken (at (now (self .entry)))) ⌝ }
+    {
+        let rest = &self.text[self.place..self.line_end];
+        leading_spaces(rest) == rest.len()
     }
 
     // The next token of the line, past the spaces before it.

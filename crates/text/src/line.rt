@@ -1,7 +1,7 @@
 // What a line states, from its tokens.
 ghost use mathlib.Core.Path.{_≡_};
 ghost use Rattle.traces.specs.declared.entry.Kind.the-variants.{Swap};
-ghost use Rattle.text.specs.Lines.{accepted, accessed, body, isEnd, isSymbol, numberIn, parts, put, statement, swapParts, valueOf};
+ghost use Rattle.text.specs.Lines.{accepted, accessed, body, isEnd, isSymbol, lineFrom, numberIn, parts, put, statement, swapParts, valueOf};
 ghost use Rattle.text.specs.Places.{Gives, SameLine, at, tok};
 use crate::fault::Cause;
 use crate::fault::Fault;
@@ -16,6 +16,15 @@ use crate::token::Token;
 use traces::Address;
 use traces::AddressPartialEq;
 use traces::Kind;
+
+const NO_FIELDS: Fields = Fields {
+    thread: 0,
+    thread_column: 0,
+    address: Address { number: 0 },
+    address_column: 0,
+    read: 0,
+    written: 0,
+};
 
 // The number that digits write, where it has 64 bits.
 fn value_of(digits: &[u8]) -> Option<u64>
@@ -224,5 +233,18 @@ impl Reader<'_> {
             }
             _ => Err(located.fault(Cause::Misfit)),
         }
+    }
+
+    // What the line states from its start on: nothing where it has no token.
+    pub(crate) fn statement(&mut self) -> Result<Option<Statement>, Fault>
+        ensures is { λ r. ⌜ r ≡ lineFrom (at (now (self .entry))) ⌝ }
+        ensures kept { λ _. ⌜ SameLine (now (self .entry)) (now (self .exit)) ⌝ }
+    {
+        if self.is_blank() {
+            return Ok(None);
+        }
+        let head = [Part::Thread, Part::Fixed(Symbol::Colon)];
+        let fields = self.parts(&head, NO_FIELDS)?;
+        Ok(Some(self.body(fields)?))
     }
 }
