@@ -7,6 +7,7 @@ pub mod Forms
 pub mod Fronts
 pub mod Gaps
 pub mod Likes
+pub mod Lining
 pub mod Longest
 pub mod Moving
 pub mod Parting

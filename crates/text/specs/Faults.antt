@@ -1,16 +1,24 @@
--- The first fault of a line, said of the format alone: it stands at the first token behind which no line of the format goes on.
+-- The first fault of a text, said of the format alone. In a line that is not of the format,
+-- it stands at the first token behind which no line of the format goes on.
 use mathlib.Core.Path.{_≡_}
-use mathlib.Core.List.{List, [], _∷_, _++_}
+use mathlib.Core.List.{List, [], _∷_, _++_, map}
+use mathlib.Core.Logic.{_⊎_}
 use Prim.Native.Nat.{ℕ, _+_, _^_, _<_, _≤_}
 use lib.ListN.{length, getD}
-use Rattle.std.specs.declared.result.Result.the-variants.{Err}
+use Rattle.std.specs.declared.result.Result.the-variants.{Ok, Err}
+use Rattle.std.specs.shelf.Lists.{All}
 use Rattle.traces.specs.declared.entry.Instruction.{Instruction}
+use Rattle.traces.specs.declared.entry.Refusal.{Refusal}
+use Rattle.traces.specs.declared.entry.Refusal.the-variants.{UnknownKind, TooManyEntries, TooManyThreads, TooManyAddresses}
+use Rattle.traces.specs.Adding.{admitted}
 use Rattle.text.specs.declared.fault.Cause.{Cause}
-use Rattle.text.specs.declared.fault.Cause.the-variants.{Misfit, TooLarge, OtherAddress}
+use Rattle.text.specs.declared.fault.Cause.the-variants.{Misfit, TooLarge, OtherAddress, Trace}
 use Rattle.text.specs.declared.fault.Fault.{Fault}
-use Rattle.text.specs.Tokens.{Tok, number}
-use Rattle.text.specs.Grammar.{Begins, Spaces, States, decimal}
-use Rattle.text.specs.Lines.{lineFrom, startOf}
+use Rattle.text.specs.declared.token.Symbol.{Symbol}
+use Rattle.text.specs.Tokens.{Tok, number, fixed}
+use Rattle.text.specs.Grammar.{Begins, Line, Spaces, States, decimal}
+use Rattle.text.specs.Lines.{lineFrom, startOf, tooLong}
+use Rattle.text.specs.Texts.{admittedAll}
 
 -- some line of the format begins with the tokens ts
 abbrev pub Viable : List Tok → Type 0
@@ -38,6 +46,46 @@ pub data LineFault (bs : List ℕ) : Cause → ℕ → Type 0 where
       (ds more : List ℕ) → Begins rest (number ds) more → 2 ^ 64 ≤ decimal 0 ds → LineFault bs TooLarge column
   other-address : (ts : List Tok) (rest : List ℕ) (column : ℕ) → Leads bs ts rest → column + length rest ≡ length bs + 1 → NumberFits ts →
       (ds more : List ℕ) → Begins rest (number ds) more → decimal 0 ds < 2 ^ 64 → (Viable (ts ++ number ds ∷ []) → ⊥) → LineFault bs OtherAddress column
+
+-- the thread number of the line bs stands at a column
+abbrev pub ThreadAt : List ℕ → ℕ → Type 0
+ThreadAt bs column = (rest : List ℕ) × (Leads bs [] rest × (column + length rest ≡ length bs + 1))
+
+-- the first address of the line bs stands at a column: it is the second number, behind the thread number and symbols
+abbrev pub AddressAt : List ℕ → ℕ → Type 0
+AddressAt bs column =
+    (thread : List ℕ) × ((symbols : List Symbol) × ((rest : List ℕ) × ((ds : List ℕ) × ((more : List ℕ) ×
+    (Leads bs (number thread ∷ map fixed symbols) rest × Begins rest (number ds) more × (column + length rest ≡ length bs + 1))))))
+
+-- where a draft's refusal of the line bs is placed
+abbrev pub RefusedAt : Refusal → List ℕ → ℕ → Type 0
+RefusedAt UnknownKind bs column = ⊥
+RefusedAt TooManyEntries bs column = ThreadAt bs column
+RefusedAt TooManyThreads bs column = ThreadAt bs column
+RefusedAt TooManyAddresses bs column = AddressAt bs column
+
+-- a line is over: the text ends, or byte 10 follows
+abbrev pub LineOver : List ℕ → Type 0
+LineOver rest = (rest ≡ []) ⊎ ((more : List ℕ) × (rest ≡ 10 ∷ more))
+
+-- the first fault of a text whose first line is the line n and is read behind the instructions `before`
+pub data TextFault : List Instruction → ℕ → List ℕ → Fault → Type 0 where
+  -- its first line is not of the format
+  in-line : (before : List Instruction) (n : ℕ) (bs rest : List ℕ) (cause : Cause) (column : ℕ) →
+      All (λ b. b ≡ 10 → ⊥) bs → LineOver rest → (Spaces bs → ⊥) → LineFault bs cause column →
+      TextFault before n (bs ++ rest) (record { cause = cause; line = n; column = column })
+  -- its first line states an instruction that the draft refuses
+  refused : (before : List Instruction) (n : ℕ) (bs rest : List ℕ) (i : Instruction) (refusal : Refusal) (column : ℕ) →
+      All (λ b. b ≡ 10 → ⊥) bs → LineOver rest → Line bs (i ∷ []) → admitted before i ≡ Err refusal → RefusedAt refusal bs column →
+      TextFault before n (bs ++ rest) (record { cause = Trace refusal; line = n; column = column })
+  -- its first line is read, and the fault is behind it
+  later : (before : List Instruction) (n : ℕ) (bs rest : List ℕ) (is after : List Instruction) (f : Fault) →
+      All (λ b. b ≡ 10 → ⊥) bs → Line bs is → admittedAll before is ≡ Ok after → TextFault after (n + 1) rest f →
+      TextFault before n (bs ++ 10 ∷ rest) f
+
+-- a text is refused with f: it is too long, or f is its first fault
+abbrev pub Faulty : List Instruction → List ℕ → Fault → Type 0
+Faulty before bs f = ((16384 < length bs) × (f ≡ tooLong)) ⊎ ((length bs ≤ 16384) × TextFault before 1 bs f)
 
 -- a line that is refused is refused at its first fault
 abbrev pub First-faults : Type 0

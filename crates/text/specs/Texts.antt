@@ -4,7 +4,7 @@ use mathlib.Core.Bool.{cond}
 use mathlib.Core.List.{List, [], _∷_}
 use Prim.Native.Nat.{ℕ, _+_, _≤_}
 use lib.Dec.{eqb, ltb}
-use lib.ListN.{length}
+use lib.ListN.{length, take}
 use Rattle.std.specs.declared.option.Option.{Option}
 use Rattle.std.specs.declared.option.Option.the-variants.{Some, None}
 use Rattle.std.specs.declared.result.Result.{Result}
@@ -19,6 +19,7 @@ use Rattle.text.specs.declared.fault.Cause.the-variants.{Trace}
 use Rattle.text.specs.declared.fault.Fault.{Fault}
 use Rattle.text.specs.Grammar.{Text}
 use Rattle.text.specs.Lines.{andThen, instructionOf, lineFrom, startOf, tooLong}
+use Rattle.text.specs.Tokens.{At}
 
 abbrev pub intoFirst : ℕ → List (List ℕ) → List (List ℕ)
 intoFirst b [] = (b ∷ []) ∷ []
@@ -45,9 +46,13 @@ abbrev pub entered : ℕ → List Instruction → Option Statement → Result (L
 entered n is None = Ok is
 entered n is (Some s) = placedIn n s (admitted is (instructionOf s))
 
+-- what the line from a place on makes of the instructions
+abbrev pub lineReadFrom : At → List Instruction → Result (List Instruction) Fault
+lineReadFrom a is = andThen (lineFrom a) (entered (a .line) is)
+
 -- what the line n makes of the instructions
 abbrev pub lineRead : ℕ → List Instruction → List ℕ → Result (List Instruction) Fault
-lineRead n is bs = andThen (lineFrom (startOf n bs)) (entered n is)
+lineRead n is bs = lineReadFrom (startOf n bs) is
 
 -- what lines make of the instructions, the first of them the line n
 unfoldable pub linesRead : ℕ → List Instruction → List (List ℕ) → Result (List Instruction) Fault
@@ -72,3 +77,12 @@ Readable before bs after = (length bs ≤ 16384) × ((is : List Instruction) × 
 abbrev pub Enters : List Instruction → Statement → Result (Unit {0}) Cause → List Instruction → Type 0
 Enters before s (Ok _) after = admitted before (instructionOf s) ≡ Ok after
 Enters before s (Err e) after = ((refusal : Refusal) × (e ≡ Trace refusal) × (admitted before (instructionOf s) ≡ Err refusal)) × (after ≡ before)
+
+-- the instructions `after` begin with those before
+abbrev pub Grown : List Instruction → List Instruction → Type 0
+Grown before after = take (length before) after ≡ before
+
+-- what reading the lines of a text answers; at a fault, what was read up to it is there
+abbrev pub ReadsOn : List Instruction → List ℕ → Result (Unit {0}) Fault → List Instruction → Type 0
+ReadsOn before bs (Ok _) after = linesRead 1 before (linesOf bs) ≡ Ok after
+ReadsOn before bs (Err f) after = (linesRead 1 before (linesOf bs) ≡ Err f) × Grown before after

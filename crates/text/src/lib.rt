@@ -11,4 +11,5 @@ mod token;
 pub use fault::Cause;
 pub use fault::CauseFromRefusal;
 pub use fault::Fault;
+pub use reading::read;
 pub use theorems::first_faults_stand;
