@@ -24,8 +24,8 @@ use Rattle.text.specs.declared.fault.Cause.the-variants.{Misfit, TooLarge, Oth
 use Rattle.text.specs.declared.fault.Fault.{Fault}
 use Rattle.text.specs.Tokens.{Tok, number, fixed, ends, unknown, At, skipped, nextToken, past}
 use Rattle.text.specs.Grammar.{Writes, States, decimal}
-use Rattle.text.specs.Lines.{andThen, accepted, accessed, body, cellParts, faultAt, isEnd, isSymbol, loadParts, noFields, numberIn, orTooLarge, parts, placed, put, someStatement, startOf, statement, storeParts, swapParts, syncParts, threadParts}
-use Rattle.text.specs.Faults.{NumberFits, LineFault, too-large, other-address, First-faults}
+use Rattle.text.specs.Lines.{andThen, accepted, accessed, body, cellParts, faultAt, isEnd, isSymbol, loadParts, noFields, numberIn, orTooLarge, parts, placed, put, someStatement, startOf, statement, storeParts, swapParts, syncParts, threadParts, lineFrom}
+use Rattle.text.specs.Faults.{NumberFits, LineFault, too-large, other-address}
 use Rattle.text.proofs.Longest.{token-digits, token-number, token-fixed}
 use Rattle.text.proofs.Fits.{no-ok, then-then, symbol-is}
 use Rattle.text.proofs.Wants.{Want, finish, any, new, same, symbol, either, Small, Follows, at-end, any-number, new-number, same-number, the-symbol, first, second, completed, naught, naught-small, wanting, plan, access, bodies, whole, states-follow, follow-states, behind-symbol, behind-first, behind-any, behind-new, behind-same, no-equals, no-memory, no-less, NumberFirst, Numeric, any-numeric, new-numeric, same-numeric}
@@ -271,7 +271,7 @@ module _ (bs : List ℕ) (n : ℕ) where
   }
 
 -- a line that is refused is refused at its first fault
-pub first-faults : First-faults
+pub first-faults : (n : ℕ) (bs : List ℕ) (f : Fault) → lineFrom (startOf n bs) ≡ Err f → LineFault bs (f .cause) (f .column) × (f .line ≡ n)
 first-faults n bs f h =
     faults-parts bs n bodies body (faults-body bs n) threadParts refl noFields (startOf n bs) (started bs n) f
     (of-line (isEnd (nextToken (startOf n bs))) (andThen (parts threadParts noFields (startOf n bs)) (λ x. body (x .0) (x .1))) f h)

@@ -43,20 +43,20 @@ pub begins-some : (bs : List ℕ) (t : Tok) (rest : List ℕ) → Begins bs t re
 begins-some bs t rest b = omega (arith, spells-some (b .spelled) t (b .spells), spells-width (b .spelled) t (b .spells))
 
 -- no token begins with a space
-begins-apart : (bs : List ℕ) (t : Tok) (rest : List ℕ) → Begins bs t rest → getD bs 0 0 ≡ 32 → ⊥
+pub begins-apart : (bs : List ℕ) (t : Tok) (rest : List ℕ) → Begins bs t rest → getD bs 0 0 ≡ 32 → ⊥
 begins-apart [] t rest b e = absurd (omega arith)
 begins-apart (x ∷ xs) t rest b e = token-unknown (x ∷ xs) (ap (λ y. token (y ∷ xs)) e ∙ token-plain 32 xs refl) .1 t rest b
 
--- behind a gap stands the token that the bytes begin with
-unspaced-gap : (gap bs : List ℕ) (t : Tok) (rest : List ℕ) → Spaces gap → Begins bs t rest → unspaced (gap ++ bs) ≡ bs
-unspaced-gap gap bs t rest s b =
-    let n = front-none (λ x. eqb x 32) bs (ne-eqb (getD bs 0 0) 32 (begins-apart bs t rest b)) in
+-- behind a gap stand the bytes that begin with no space
+pub unspaced-gap : (gap bs : List ℕ) → Spaces gap → (getD bs 0 0 ≡ 32 → ⊥) → unspaced (gap ++ bs) ≡ bs
+unspaced-gap gap bs s none =
+    let n = front-none (λ x. eqb x 32) bs (ne-eqb (getD bs 0 0) 32 none) in
     drop-at gap bs (spaces (gap ++ bs)) (omega (arith, spaces-behind gap bs s))
 
 -- tokens that stand at the front are read one by one
 pub tokens-next : (bs : List ℕ) (t : Tok) (ts : List Tok) → Tokens bs (t ∷ ts) → (ahead bs ≡ t) × Tokens (beyond bs) ts × (0 < width t)
 tokens-next bs t ts (more gap cs rest s b h) =
-    let u = unspaced-gap gap cs t rest s b in
+    let u = unspaced-gap gap cs s (begins-apart cs t rest b) in
     let k = begins-token cs t rest b in
     let e : ahead (gap ++ cs) ≡ t = ap token u ∙ k .0 in
     (e, subst (λ l. Tokens l ts) (sym ((λ i. drop (width (e i)) (u i)) ∙ k .1)) h, begins-some cs t rest b)

@@ -3,17 +3,17 @@ use mathlib.Core.Path.{_≡_, sym, ap, subst, _∙_}
 use mathlib.Core.List.{List, [], _∷_, _++_}
 use Prim.Native.Nat.{ℕ, _+_}
 use native.Mathlib.Omega.{arith}
-use lib.ListN.{length, take}
-use Rattle.std.proofs.shelf.Lists.{append-nil, append-assoc, take-append-drop}
+use lib.ListN.{length}
+use Rattle.std.proofs.shelf.Lists.{append-nil, append-assoc}
 use Rattle.traces.specs.declared.entry.Instruction.{Instruction}
 use Rattle.text.specs.declared.statement.Fields.{Fields}
 use Rattle.text.specs.declared.fault.Cause.the-variants.{Misfit}
-use Rattle.text.specs.Tokens.{Tok, number, At, token, width, spaces, skipped, nextToken, past}
+use Rattle.text.specs.Tokens.{Tok, number, At, token, width, skipped, nextToken, past}
 use Rattle.text.specs.Grammar.{Begins, States, decimal}
-use Rattle.text.specs.Faults.{Viable, Leads, here, behind, LineFault, misfit}
+use Rattle.text.specs.Faults.{Viable, Leads, LineFault, misfit}
 use Rattle.text.proofs.Longest.{begins-token}
-use Rattle.text.proofs.Gaps.{gap-spaces, gap-stops}
 use Rattle.text.proofs.Columns.{begins-length, skipped-column}
+use Rattle.text.proofs.Leading.{leads-none, leads-more}
 use Rattle.text.proofs.Likes.{Like, numbers, ending, like-itself}
 use Rattle.text.proofs.Wants.{Want, Small, Follows, completed}
 
@@ -39,10 +39,7 @@ module _ {bs : List ℕ} {n : ℕ} {w : Want} {f : Fields} {a : At} (r : Reached
 
   -- the tokens so far, and behind them the next token
   pub leads-here : Leads bs (r .before) (skipped a .rest)
-  leads-here =
-      subst (λ l. Leads bs l (skipped a .rest)) (append-nil (r .before)) (r .leads [] (skipped a .rest)
-      (subst (λ l. Leads l [] (skipped a .rest)) (take-append-drop (spaces (a .rest)) (a .rest))
-      (here (take (spaces (a .rest)) (a .rest)) (skipped a .rest) (gap-spaces (a .rest)) (gap-stops (a .rest)))))
+  leads-here = subst (λ l. Leads bs l (skipped a .rest)) (append-nil (r .before)) (r .leads [] (skipped a .rest) (leads-none (a .rest)))
 
   -- the column of the next token
   pub column-here : skipped a .column + length (skipped a .rest) ≡ length bs + 1
@@ -80,9 +77,7 @@ module _ {bs : List ℕ} {n : ℕ} {w : Want} {f : Fields} {a : At} (r : Reached
     address-is = same;
     line-is = r .line-is;
     column-is = omega (arith, column-here, begins-length (skipped a .rest) t (past a .rest) b, ap width e);
-    leads = λ ts end h. subst (λ k. Leads bs k end) (sym (append-assoc (r .before) (t ∷ []) ts)) (r .leads (t ∷ ts) end
-        (subst (λ k. Leads k (t ∷ ts) end) (take-append-drop (spaces (a .rest)) (a .rest))
-        (behind (take (spaces (a .rest)) (a .rest)) (skipped a .rest) (past a .rest) end (gap-spaces (a .rest)) b h)));
+    leads = λ ts end h. subst (λ k. Leads bs k end) (sym (append-assoc (r .before) (t ∷ []) ts)) (r .leads (t ∷ ts) end (leads-more (a .rest) t ts end b h));
     onward = λ ts h.
         let s = r .onward (t ∷ ts) (out ts h) in
         (s .0, subst (λ k. States k (s .0)) (sym (append-assoc (r .before) (t ∷ []) ts)) (s .1));

@@ -78,13 +78,13 @@ entered-stated n before bs mid (Some s) e h =
     (instructionOf s ∷ [], line-stated n bs s e, ap (λ r. andThen r (λ ks. Ok ks)) (placed-ok n s (admitted before (instructionOf s)) mid h))
 
 -- a line that was read is of the format, and what it states could be added
-line-from : (n : ℕ) (before : List Instruction) (bs : List ℕ) (mid : List Instruction) → lineRead n before bs ≡ Ok mid → (is : List Instruction) × Line bs is × (admittedAll before is ≡ Ok mid)
+pub line-from : (n : ℕ) (before : List Instruction) (bs : List ℕ) (mid : List Instruction) → lineRead n before bs ≡ Ok mid → (is : List Instruction) × Line bs is × (admittedAll before is ≡ Ok mid)
 line-from n before bs mid h =
     let k = then-ok (lineFrom (startOf n bs)) (entered n before) mid h in
     entered-stated n before bs mid (k .0) (k .1) (k .2)
 
 -- a line of the format is read where what it states can be added
-line-read : (n : ℕ) (before : List Instruction) (bs : List ℕ) (is mid : List Instruction) → Line bs is → admittedAll before is ≡ Ok mid → lineRead n before bs ≡ Ok mid
+pub line-read : (n : ℕ) (before : List Instruction) (bs : List ℕ) (is mid : List Instruction) → Line bs is → admittedAll before is ≡ Ok mid → lineRead n before bs ≡ Ok mid
 line-read n before bs is mid l h =
     elim (line-complete n bs is l) [
       | inl k ↦ ap (λ r. andThen r (entered n before)) (k .0) ∙ ap Ok (ok-same before mid (subst (λ js. admittedAll before js ≡ Ok mid) (k .1) h))

@@ -5,6 +5,7 @@ use mathlib.Core.List.{List, [], _∷_, _++_, map}
 use mathlib.Core.Logic.{_⊎_}
 use Prim.Native.Nat.{ℕ, _+_, _^_, _<_, _≤_}
 use lib.ListN.{length, getD}
+use Rattle.std.specs.declared.result.Result.{Result}
 use Rattle.std.specs.declared.result.Result.the-variants.{Ok, Err}
 use Rattle.std.specs.shelf.Lists.{All}
 use Rattle.traces.specs.declared.entry.Instruction.{Instruction}
@@ -16,9 +17,9 @@ use Rattle.text.specs.declared.fault.Cause.the-variants.{Misfit, TooLarge, Oth
 use Rattle.text.specs.declared.fault.Fault.{Fault}
 use Rattle.text.specs.declared.token.Symbol.{Symbol}
 use Rattle.text.specs.Tokens.{Tok, number, fixed}
-use Rattle.text.specs.Grammar.{Begins, Line, Spaces, States, decimal}
-use Rattle.text.specs.Lines.{lineFrom, startOf, tooLong}
-use Rattle.text.specs.Texts.{admittedAll}
+use Rattle.text.specs.Grammar.{Begins, Line, One-reading, Spaces, States, decimal}
+use Rattle.text.specs.Lines.{tooLong}
+use Rattle.text.specs.Texts.{Readable, admittedAll}
 
 -- some line of the format begins with the tokens ts
 abbrev pub Viable : List Tok → Type 0
@@ -87,6 +88,14 @@ pub data TextFault : List Instruction → ℕ → List ℕ → Fault → Type 0 
 abbrev pub Faulty : List Instruction → List ℕ → Fault → Type 0
 Faulty before bs f = ((16384 < length bs) × (f ≡ tooLong)) ⊎ ((length bs ≤ 16384) × TextFault before 1 bs f)
 
--- a line that is refused is refused at its first fault
-abbrev pub First-faults : Type 0
-First-faults = (n : ℕ) (bs : List ℕ) (f : Fault) → lineFrom (startOf n bs) ≡ Err f → LineFault bs (f .cause) (f .column) × (f .line ≡ n)
+-- what reading a text answers, and which instructions it leaves of those before it
+abbrev pub Reads : List Instruction → List ℕ → Result (Unit {0}) Fault → List Instruction → Type 0
+Reads before bs (Ok _) after = Readable before bs after
+Reads before bs (Err f) after = Faulty before bs f × (after ≡ before)
+
+-- a text has one reading, and behind given instructions it either can be read, to one end, or has one first fault
+pub record Definite (before : List Instruction) (bs : List ℕ) : Type 0 where
+  pub one-reading : One-reading bs
+  pub one-end : (x y : List Instruction) → Readable before bs x → Readable before bs y → x ≡ y
+  pub one-fault : (f g : Fault) → Faulty before bs f → Faulty before bs g → f ≡ g
+  pub never-both : (x : List Instruction) (f : Fault) → Readable before bs x → Faulty before bs f → ⊥

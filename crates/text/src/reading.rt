@@ -5,8 +5,9 @@ ghost use lib.ListN.{length};
 ghost use Rattle.traces.specs.Adding.{Leaves};
 ghost use Rattle.traces.specs.Instructions.{instructions};
 ghost use Rattle.text.specs.declared.fault.Cause.the-variants.{Trace};
+ghost use Rattle.text.specs.Faults.{Definite, Reads};
 ghost use Rattle.text.specs.Places.{SameLine, at};
-ghost use Rattle.text.specs.Texts.{Enters, ReadsOn, columnOf, lineReadFrom, textRead};
+ghost use Rattle.text.specs.Texts.{Enters, ReadsOn, columnOf, lineReadFrom};
 use crate::fault::Cause;
 use crate::fault::CauseFromRefusal;
 use crate::fault::Fault;
@@ -77,7 +78,8 @@ fn read_lines(draft: &mut Draft, text: &[u8]) -> Result<(), Fault>
 
 // Reads a text into the draft: all of it, or nothing and its first fault.
 pub fn read(draft: &mut Draft, text: &[u8]) -> Result<(), Fault>
-    ensures { λ r. ⌜ Leaves (textRead (instructions (now (draft .entry) .contents)) (now (text .entry))) (instructions (now (draft .entry) .contents)) r (instructions (now (draft .exit) .contents)) ⌝ }
+    ensures reads { λ r. ⌜ Reads (instructions (now (draft .entry) .contents)) (now (text .entry)) r (instructions (now (draft .exit) .contents)) ⌝ }
+    ensures definite { λ _. ⌜ Definite (instructions (now (draft .entry) .contents)) (now (text .entry)) ⌝ }
 {
     if text.len() > MAX_BYTES {
         return Err(Fault {

@@ -146,3 +146,7 @@ entries-are x =
     ap (λ l. map (entryOf l (addressesOf (instructions x))) (instructions x)) (sym (h .appear-t))
     ∙ ap (λ l. map (entryOf ts l) (instructions x)) (sym (h .appear-d))
     ∙ entries-again ts ds (vec-items (x .entries)) (h .distinct-t) (h .distinct-d) (h .named-t) (h .named-d) (h .plain)
+
+-- there are no more addresses than a draft may have
+pub few-addresses : (x : Contents) → length (addressesOf (instructions x)) ≤ 16
+few-addresses x = subst (λ n. n ≤ 16) (x .addresses .ok .0 ∙ ap length (x .«addresses_appear»)) (x .«few_addresses»)

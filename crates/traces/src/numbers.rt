@@ -7,6 +7,9 @@ use crate::entry::Instruction;
 use crate::entry::Kind;
 use crate::entry::Refusal;
 
+// Drafts and traces are layer 1.
+const LAYER: u8 = 1;
+
 impl Kind {
     // The kind that a number stands for, if there is one.
     pub fn from_number(number: u64) -> Option<Kind>
@@ -117,10 +120,9 @@ impl Refusal {
         }
     }
 
-    // Drafts and traces are layer 1.
     pub fn layer(self) -> u8
         ensures { λ r. ⌜ r ≡ traceLayer ⌝ }
     {
-        1
+        LAYER
     }
 }

@@ -76,9 +76,9 @@ loop-reader-again c =
     let start : 0 < length (left t) → Starts (k .reader .line + 1) t = λ more. subst (λ i. Starts (i + 1) t) (got .kept .1) (c .next-line .ensures .start (subst (λ (l : List ℕ). 0 < length l) same more)) in
     let rest = lines-next (k .reader .line) m (left (k .reader)) _ (k .inv .0) some n (sym (at-line (k .reader) (k .inv .1 some) m) ∙ got .reads) in (
       ⊎-elim
-      (λ more. ap (λ i. linesRead i n (linesOf (left t))) (number-is (k .reader .line + 1) t (start more)) ∙ ap (λ l. linesRead (k .reader .line + 1) n (linesOf l)) e ∙ rest)
-      (λ none. lines-renumber (t .line) (k .reader .line + 1) n (left t) (omega arith) ∙ ap (λ l. linesRead (k .reader .line + 1) n (linesOf l)) e ∙ rest)
-      (cases-lt 0 (length (left t))),
+          (λ more. ap (λ i. linesRead i n (linesOf (left t))) (number-is (k .reader .line + 1) t (start more)) ∙ ap (λ l. linesRead (k .reader .line + 1) n (linesOf l)) e ∙ rest)
+          (λ none. lines-renumber (t .line) (k .reader .line + 1) n (left t) (omega arith) ∙ ap (λ l. linesRead (k .reader .line + 1) n (linesOf l)) e ∙ rest)
+          (cases-lt 0 (length (left t))),
       λ more. subst (λ i. Starts i t) (sym (number-is (k .reader .line + 1) t (start more))) (start more),
       grown-line (instructions (c .args .draft .now .contents)) m (k .inv .2) (at (k .reader)) n (got .reads),
     )

@@ -1,0 +1,41 @@
+use mathlib.Core.Path.{refl, ap, _∙_}
+use native.Mathlib.Omega.{arith}
+use lib.ListN.{take}
+use Rattle.traces.specs.Instructions.{instructions}
+use Rattle.traces.proofs.Holding.{few-addresses}
+use Rattle.text.proofs.Readings.{readable-from}
+use Rattle.text.proofs.Refusing.{faulty-from}
+use Rattle.text.proofs.Settling.{definite, text-long, text-short}
+use Rattle.text.proofs.reading.read.Needs as need
+
+pub returns-then-text-gt-MAX-BYTES : need.returns-then-text-gt-MAX-BYTES
+returns-then-text-gt-MAX-BYTES c =
+    let before = instructions (c .args .draft .now .contents) in
+    let bs = c .args .text .now in
+    record {
+      reads = (faulty-from before bs _ (few-addresses (c .args .draft .now .contents)) (text-long before bs (omega arith)), refl);
+      definite = definite before bs;
+    }
+
+pub returns-in-Ok : need.returns-in-Ok
+returns-in-Ok c =
+    let before = instructions (c .args .draft .now .contents) in
+    let bs = c .args .text .now in
+    record {
+      reads = readable-from before bs _ (text-short before bs (omega arith) ∙ c .in-Ok .ensures tt);
+      definite = definite before bs;
+    }
+
+pub returns-in-Err : need.returns-in-Err
+returns-in-Err c =
+    let before = instructions (c .args .draft .now .contents) in
+    let bs = c .args .text .now in
+    let got = c .in-Err .ensures tt in
+    let after = instructions (c .read-lines .last .draft .contents) in
+    record {
+      reads = (
+        faulty-from before bs _ (few-addresses (c .args .draft .now .contents)) (text-short before bs (omega arith) ∙ got .0),
+        c .truncate .ensures ∙ ap (λ n. take n after) (c .len-before .ensures) ∙ got .1,
+      );
+      definite = definite before bs;
+    }
