@@ -6,8 +6,8 @@ use native.Mathlib.Omega.{arith}
 use lib.Dec.{eqb}
 use lib.ListN.{length, length-append}
 use Rattle.std.proofs.shelf.Lists.{length-drop}
-use Rattle.text.specs.Tokens.{Tok, At, skipped, spaces, width}
-use Rattle.text.specs.Grammar.{Begins}
+use Rattle.text.specs.Tokens.{At, skipped, spaces, width}
+use Rattle.text.specs.Grammar.{Begins, Tok}
 use Rattle.text.proofs.Fronts.{front-le}
 use Rattle.text.proofs.Longest.{spells-width}
 

@@ -22,9 +22,10 @@ use Rattle.text.specs.declared.statement.Statement.{Statement}
 use Rattle.text.specs.declared.fault.Cause.{Cause}
 use Rattle.text.specs.declared.fault.Cause.the-variants.{Misfit, TooLarge, OtherAddress}
 use Rattle.text.specs.declared.fault.Fault.{Fault}
-use Rattle.text.specs.Tokens.{Tok, number, fixed, ends, unknown, At, skipped, nextToken, past}
-use Rattle.text.specs.Grammar.{Writes, States, decimal}
-use Rattle.text.specs.Lines.{andThen, accepted, accessed, body, cellParts, faultAt, isEnd, isSymbol, loadParts, noFields, numberIn, orTooLarge, parts, placed, put, someStatement, startOf, statement, storeParts, swapParts, syncParts, threadParts, lineFrom}
+use Rattle.text.specs.Tokens.{At, skipped, nextToken, past}
+use Rattle.text.specs.Grammar.{Writes, States, decimal, Tok, number, fixed, ends, unknown}
+use Rattle.text.specs.Lines.{accepted, accessed, body, cellParts, faultAt, isEnd, isSymbol, loadParts, noFields, numberIn, orTooLarge, parts, placed, put, someStatement, startOf, statement, storeParts, swapParts, syncParts, threadParts, lineFrom}
+use Rattle.traces.specs.Adding.{andThen}
 use Rattle.text.specs.Faults.{NumberFits, LineFault, too-large, other-address}
 use Rattle.text.proofs.Longest.{token-digits, token-number, token-fixed}
 use Rattle.text.proofs.Fits.{no-ok, then-then, symbol-is}

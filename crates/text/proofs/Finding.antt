@@ -14,14 +14,13 @@ use Rattle.std.proofs.shelf.Tests.{cond-true, cond-false, lt-ltb, le-ltb}
 use Rattle.traces.specs.declared.entry.Instruction.{Instruction}
 use Rattle.traces.specs.declared.entry.Refusal.{Refusal}
 use Rattle.traces.specs.declared.entry.Refusal.the-variants.{UnknownKind, TooManyEntries, TooManyThreads, TooManyAddresses}
-use Rattle.traces.specs.Adding.{admitted}
+use Rattle.traces.specs.Adding.{admitted, andThen}
 use Rattle.text.specs.declared.statement.Statement.{Statement}
 use Rattle.text.specs.declared.fault.Cause.{Cause}
 use Rattle.text.specs.declared.fault.Cause.the-variants.{Trace}
 use Rattle.text.specs.declared.fault.Fault.{Fault}
-use Rattle.text.specs.Tokens.{Tok}
-use Rattle.text.specs.Grammar.{Line, Spaces, States, Tokens, blank, stating}
-use Rattle.text.specs.Lines.{andThen, instructionOf, lineFrom, startOf}
+use Rattle.text.specs.Grammar.{Line, Spaces, States, Tokens, blank, stating, Tok}
+use Rattle.text.specs.Lines.{instructionOf, lineFrom, startOf}
 use Rattle.text.specs.Texts.{columnOf, entered, lineRead, linesOf, linesRead, placedIn, textRead}
 use Rattle.text.specs.Faults.{Faulty, LineFault, LineOver, RefusedAt, TextFault, in-line, refused, later}
 use Rattle.text.proofs.Faulting.{first-faults}

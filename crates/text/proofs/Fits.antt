@@ -19,9 +19,10 @@ use Rattle.text.specs.declared.statement.Part.the-variants.{Thread, Address as
 use Rattle.text.specs.declared.statement.Fields.{Fields}
 use Rattle.text.specs.declared.fault.Cause.{Cause}
 use Rattle.text.specs.declared.fault.Cause.the-variants.{Misfit, OtherAddress}
-use Rattle.text.specs.Tokens.{Tok, number, fixed, ends, unknown, token, At, skipped, nextToken, past}
-use Rattle.text.specs.Grammar.{Spells, Tokens, Writes, decimal}
-use Rattle.text.specs.Lines.{andThen, orTooLarge, numberIn, code, isSymbol, isEnd, put, accepted, placed, parts}
+use Rattle.text.specs.Tokens.{token, At, skipped, nextToken, past}
+use Rattle.text.specs.Grammar.{Spells, Tokens, Writes, decimal, Tok, number, fixed, ends, unknown}
+use Rattle.text.specs.Lines.{orTooLarge, numberIn, code, isSymbol, isEnd, put, accepted, placed, parts}
+use Rattle.traces.specs.Adding.{andThen}
 use Rattle.text.proofs.Gaps.{beyond-end, tokens-end, tokens-nil, tokens-more, tokens-next, tokens-none}
 use Rattle.text.proofs.Longest.{token-digits, token-fixed, token-number}
 

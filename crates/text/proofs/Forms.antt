@@ -20,9 +20,10 @@ use Rattle.text.specs.declared.statement.Part.the-variants.{Thread, Fixed}
 use Rattle.text.specs.declared.statement.Fields.{Fields}
 use Rattle.text.specs.declared.statement.Statement.{Statement}
 use Rattle.text.specs.declared.fault.Fault.{Fault}
-use Rattle.text.specs.Tokens.{Tok, fixed, ends, At, skipped, nextToken, past}
-use Rattle.text.specs.Grammar.{States, a-load, a-store, a-swap, a-sync}
-use Rattle.text.specs.Lines.{andThen, numberIn, isSymbol, isEnd, put, accepted, placed, parts, threadParts, cellParts, loadParts, storeParts, swapParts, syncParts, noFields, statement, accessed, body, someStatement, lineFrom}
+use Rattle.text.specs.Tokens.{At, skipped, nextToken, past}
+use Rattle.text.specs.Grammar.{States, a-load, a-store, a-swap, a-sync, Tok, fixed, ends}
+use Rattle.text.specs.Lines.{numberIn, isSymbol, isEnd, put, accepted, placed, parts, threadParts, cellParts, loadParts, storeParts, swapParts, syncParts, noFields, statement, accessed, body, someStatement, lineFrom}
+use Rattle.traces.specs.Adding.{andThen}
 use Rattle.text.proofs.Fits.{Values, values, Fit, fit-all, fit-end, fit-symbol, fit-thread, fit-address, fit-same, fit-read, fit-written, no-ok, ok-same, then-ok, then-then, then-same, in-writes, parts-first, end-is, symbol-is, symbol-first, symbol-next}
 
 -- the parts of a body of each kind

@@ -9,8 +9,8 @@ use lib.ListN.{length, getD, take, drop}
 use Rattle.std.proofs.shelf.Elements.{all-weaker}
 use Rattle.std.proofs.shelf.Lists.{append-nil, take-append-drop, drop-at, drop-all}
 use Rattle.std.proofs.shelf.Tests.{eqb-true, eqb-false, eq-eqb, ne-eqb}
-use Rattle.text.specs.Tokens.{Tok, ends, token, width, spaces}
-use Rattle.text.specs.Grammar.{Begins, Spaces, Tokens, done, more}
+use Rattle.text.specs.Tokens.{token, width, spaces}
+use Rattle.text.specs.Grammar.{Begins, Spaces, Tokens, done, more, Tok, ends}
 use Rattle.text.proofs.Fronts.{front-behind, front-none, front-passes, front-stops}
 use Rattle.text.proofs.Longest.{begins-token, spells-some, spells-width, token-ends, token-plain, token-unknown}
 

@@ -6,8 +6,8 @@ use Prim.Native.Nat.{ℕ}
 use native.Mathlib.Omega.{arith}
 use lib.ListN.{take, drop}
 use Rattle.std.proofs.shelf.Lists.{append-nil, take-append-drop}
-use Rattle.text.specs.Tokens.{Tok, spaces, width}
-use Rattle.text.specs.Grammar.{Begins, Tokens, done, more}
+use Rattle.text.specs.Tokens.{spaces, width}
+use Rattle.text.specs.Grammar.{Begins, Tokens, done, more, Tok}
 use Rattle.text.specs.Faults.{Leads, here, behind}
 use Rattle.text.proofs.Longest.{begins-token}
 use Rattle.text.proofs.Columns.{begins-length}

@@ -5,8 +5,7 @@ use mathlib.Core.List.{List, [], _∷_}
 use Prim.Native.Nat.{ℕ}
 use Rattle.std.proofs.shelf.Tests.{both-ways, eq-eqb}
 use Rattle.text.specs.declared.token.Symbol.{Symbol}
-use Rattle.text.specs.Tokens.{Tok, number, fixed, ends}
-use Rattle.text.specs.Grammar.{Spells, a-number, a-symbol}
+use Rattle.text.specs.Grammar.{Spells, a-number, a-symbol, Tok, number, fixed, ends}
 use Rattle.text.specs.Lines.{code, isEnd, isSymbol}
 use Rattle.text.proofs.Wants.{NumberFirst}
 

@@ -2,10 +2,10 @@
 use mathlib.Core.Path.{_≡_, refl, sym, ap, subst, _∙_}
 use mathlib.Core.Bool.{Bool, true, false, cond}
 use mathlib.Core.List.{List, [], _∷_, _++_}
-use Prim.Native.Nat.{ℕ, suc, _+_, _≤_, _<_}
+use Prim.Native.Nat.{ℕ, _+_, _≤_, _<_}
 use native.Mathlib.Omega.{arith}
 use lib.Dec.{eqb, ltb, leb}
-use lib.ListN.{length, take}
+use lib.ListN.{length}
 use Rattle.std.specs.declared.option.Option.{Option}
 use Rattle.std.specs.declared.option.Option.the-variants.{Some, None}
 use Rattle.std.specs.declared.result.Result.{Result}
@@ -14,10 +14,10 @@ use Rattle.std.proofs.shelf.Lists.{length-take, take-all, take-append-le, nil-f
 use Rattle.traces.specs.declared.entry.Instruction.{Instruction}
 use Rattle.traces.specs.declared.entry.Refusal.{Refusal}
 use Rattle.traces.specs.declared.entry.Refusal.the-variants.{TooManyEntries, TooManyThreads, TooManyAddresses}
-use Rattle.traces.specs.Adding.{admitted, threadsOf, addressesOf}
+use Rattle.traces.specs.Adding.{admitted, threadsOf, addressesOf, andThen}
 use Rattle.text.specs.declared.statement.Statement.{Statement}
 use Rattle.text.specs.declared.fault.Fault.{Fault}
-use Rattle.text.specs.Lines.{andThen, instructionOf, lineFrom}
+use Rattle.text.specs.Lines.{instructionOf, lineFrom}
 use Rattle.text.specs.Places.{firstLine, behindFirst}
 use Rattle.text.specs.Tokens.{At}
 use Rattle.text.specs.Texts.{Grown, entered, intoFirst, lineRead, lineReadFrom, linesOf, linesRead, placedIn}

@@ -13,8 +13,8 @@ use Rattle.std.proofs.shelf.Lists.{append-nil, take-at, take-all, drop-at, leng
 use Rattle.std.proofs.shelf.Tests.{cond-true, cond-false, cond-both, lt-ltb, ne-eqb, eqb-true, eqb-false, ltb-true}
 use Rattle.text.specs.declared.token.Symbol.{Symbol}
 use Rattle.text.specs.declared.token.Symbol.the-variants.{Colon, Assign, Equals, Memory, Open, Close, Less, Greater, Semicolon, Sync}
-use Rattle.text.specs.Tokens.{Tok, number, fixed, ends, unknown, token, width, symbolWidth, symbolAt, orUnknown, has, digits}
-use Rattle.text.specs.Grammar.{spelling, Spells, a-number, a-symbol, Begins}
+use Rattle.text.specs.Tokens.{token, width, symbolWidth, symbolAt, orUnknown, has, digits}
+use Rattle.text.specs.Grammar.{spelling, Spells, a-number, a-symbol, Begins, Tok, number, fixed, ends, unknown}
 use Rattle.text.proofs.Fronts.{front-le, front-behind, front-passes}
 
 -- bytes that begin with digits are read as a number

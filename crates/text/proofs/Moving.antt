@@ -17,7 +17,8 @@ use Rattle.traces.specs.First.{First}
 use Rattle.text.specs.declared.token.Symbol.{Symbol}
 use Rattle.text.specs.Lines.{isEnd}
 use Rattle.text.specs.Places.{firstLine, behindFirst}
-use Rattle.text.specs.Tokens.{number, orUnknown, token, digits, spaces, symbolAt}
+use Rattle.text.specs.Tokens.{orUnknown, token, digits, spaces, symbolAt}
+use Rattle.text.specs.Grammar.{number}
 use Rattle.text.proofs.Fronts.{front-le}
 
 -- the first line feed ends the first line

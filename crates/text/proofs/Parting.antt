@@ -1,6 +1,6 @@
 -- The parts of a line, as a loop reads them.
 use mathlib.Core.Path.{_≡_, sym, ap, _∙_}
-use mathlib.Core.List.{List, _∷_}
+use mathlib.Core.List.{List}
 use Prim.Native.Nat.{ℕ, _+_, _≤_, _<_}
 use lib.ListN.{length, getD, drop}
 use Rattle.std.specs.declared.result.Result.{Result}
@@ -10,8 +10,10 @@ use Rattle.text.specs.declared.statement.Part.{Part}
 use Rattle.text.specs.declared.statement.Fields.{Fields}
 use Rattle.text.specs.declared.fault.Cause.{Cause}
 use Rattle.text.specs.declared.fault.Fault.{Fault}
-use Rattle.text.specs.Tokens.{Tok, At, skipped, nextToken, past}
-use Rattle.text.specs.Lines.{andThen, placed, accepted, parts, faultAt}
+use Rattle.text.specs.Tokens.{At, skipped, nextToken, past}
+use Rattle.text.specs.Grammar.{Tok}
+use Rattle.text.specs.Lines.{placed, accepted, parts, faultAt}
+use Rattle.traces.specs.Adding.{andThen}
 
 -- i parts of the form are read, and the rest of them from the place a gives the whole
 module _ (form : List Part) (i : ℕ) (f : Fields) (a : At) (whole : Result (Fields × At) Fault) (so-far : parts (drop i form) f a ≡ whole) where

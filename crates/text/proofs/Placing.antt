@@ -19,8 +19,8 @@ use Rattle.text.specs.declared.statement.Part.the-variants.{Thread, Address, S
 use Rattle.text.specs.declared.statement.Fields.{Fields}
 use Rattle.text.specs.declared.statement.Statement.{Statement}
 use Rattle.text.specs.declared.fault.Cause.the-variants.{Misfit, OtherAddress}
-use Rattle.text.specs.Tokens.{Tok, number, fixed, At, skipped, nextToken, past, width}
-use Rattle.text.specs.Grammar.{Begins}
+use Rattle.text.specs.Tokens.{At, skipped, nextToken, past, width}
+use Rattle.text.specs.Grammar.{Begins, Tok, number, fixed}
 use Rattle.text.specs.Lines.{numberIn, isSymbol, isEnd, put, accepted, parts, loadParts, storeParts, swapParts, noFields, lineFrom, startOf}
 use Rattle.text.specs.Faults.{Leads, ThreadAt, AddressAt}
 use Rattle.text.proofs.Longest.{token-fixed, token-number}

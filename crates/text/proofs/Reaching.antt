@@ -8,8 +8,8 @@ use Rattle.std.proofs.shelf.Lists.{append-nil, append-assoc}
 use Rattle.traces.specs.declared.entry.Instruction.{Instruction}
 use Rattle.text.specs.declared.statement.Fields.{Fields}
 use Rattle.text.specs.declared.fault.Cause.the-variants.{Misfit}
-use Rattle.text.specs.Tokens.{Tok, number, At, token, width, skipped, nextToken, past}
-use Rattle.text.specs.Grammar.{Begins, States, decimal}
+use Rattle.text.specs.Tokens.{At, token, width, skipped, nextToken, past}
+use Rattle.text.specs.Grammar.{Begins, States, decimal, Tok, number}
 use Rattle.text.specs.Faults.{Viable, Leads, LineFault, misfit}
 use Rattle.text.proofs.Longest.{begins-token}
 use Rattle.text.proofs.Columns.{begins-length, skipped-column}

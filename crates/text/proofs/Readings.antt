@@ -17,16 +17,16 @@ use Rattle.traces.specs.declared.entry.Instruction.{Instruction}
 use Rattle.traces.specs.declared.entry.Kind.{Kind}
 use Rattle.traces.specs.declared.entry.Kind.the-variants.{Load, Store, Swap, Sync as SyncKind}
 use Rattle.traces.specs.declared.entry.Refusal.{Refusal}
-use Rattle.traces.specs.Adding.{admitted}
+use Rattle.traces.specs.Adding.{admitted, andThen, admittedAll}
 use Rattle.text.specs.declared.token.Symbol.the-variants.{Colon}
 use Rattle.text.specs.declared.statement.Part.the-variants.{Thread, Fixed}
 use Rattle.text.specs.declared.statement.Statement.{Statement}
 use Rattle.text.specs.declared.fault.Cause.the-variants.{TooLong}
 use Rattle.text.specs.declared.fault.Fault.{Fault}
-use Rattle.text.specs.Tokens.{Tok}
-use Rattle.text.specs.Grammar.{Spaces, Tokens, done, States, Line, blank, stating, Text, last-line, more-lines, One-reading}
-use Rattle.text.specs.Lines.{andThen, isEnd, noFields, lineFrom, startOf, instructionOf}
-use Rattle.text.specs.Texts.{linesOf, entered, placedIn, lineRead, linesRead, textRead, admittedAll, Readable}
+use Rattle.text.specs.Grammar.{Spaces, Tokens, done, States, Line, blank, stating, Text, last-line, more-lines, One-reading, Tok}
+use Rattle.text.specs.Lines.{isEnd, noFields, lineFrom, startOf, instructionOf}
+use Rattle.text.specs.Texts.{linesOf, entered, placedIn, lineRead, linesRead, textRead}
+use Rattle.text.specs.Faults.{Readable}
 use Rattle.text.proofs.Fits.{values, no-ok, ok-same, then-ok, then-then, then-same, Closed, closed-end, parts-fit, fit-parts}
 use Rattle.text.proofs.Forms.{formParts, bodyParts, stated, fit-states, states-fit, line-form, line-end, form-line}
 use Rattle.text.proofs.Gaps.{tokens-none, tokens-end}

@@ -16,7 +16,7 @@ use Rattle.std.proofs.shelf.Tests.{cases-bool, cond-false, ltb-true, ltb-false}
 use Rattle.traces.specs.declared.entry.Instruction.{Instruction}
 use Rattle.traces.specs.declared.entry.Refusal.{Refusal}
 use Rattle.traces.specs.declared.entry.Refusal.the-variants.{UnknownKind, TooManyEntries, TooManyThreads, TooManyAddresses}
-use Rattle.traces.specs.Adding.{addressIn, addressesOf, admitted, sameAddress, threadsOf}
+use Rattle.traces.specs.Adding.{addressIn, addressesOf, admitted, sameAddress, threadsOf, andThen, admittedAll}
 use Rattle.traces.specs.Kinds.{addressed}
 use Rattle.traces.specs.Slots.{joined}
 use Rattle.traces.proofs.Slotting.{appearing-push}
@@ -24,9 +24,9 @@ use Rattle.text.specs.declared.statement.Statement.{Statement}
 use Rattle.text.specs.declared.fault.Cause.the-variants.{Trace}
 use Rattle.text.specs.declared.fault.Fault.{Fault}
 use Rattle.text.specs.Grammar.{Spaces, blank}
-use Rattle.text.specs.Lines.{andThen, instructionOf, lineFrom, startOf, tooLong}
-use Rattle.text.specs.Texts.{admittedAll, columnOf, entered, lineRead, linesOf, linesRead, placedIn, textRead}
-use Rattle.text.specs.Faults.{Faulty, LineOver, RefusedAt, TextFault, in-line, refused, later}
+use Rattle.text.specs.Lines.{instructionOf, lineFrom, startOf}
+use Rattle.text.specs.Texts.{columnOf, entered, lineRead, linesOf, linesRead, placedIn, textRead}
+use Rattle.text.specs.Faults.{Faulty, LineOver, RefusedAt, TextFault, in-line, refused, later, tooLong}
 use Rattle.text.proofs.Fits.{no-ok, ok-same, then-ok}
 use Rattle.text.proofs.Faulting.{first-faults}
 use Rattle.text.proofs.Placing.{thread-at, address-at}

@@ -1,16 +1,14 @@
 -- What a text makes of a draft's instructions is settled: one end or one first fault.
-use mathlib.Core.Path.{_≡_, sym, ap, _∙_}
+use mathlib.Core.Path.{_≡_, sym, _∙_}
 use mathlib.Core.List.{List}
 use Prim.Native.Nat.{ℕ, _≤_, _<_}
-use native.Mathlib.Omega.{arith}
 use lib.ListN.{length}
 use Rattle.std.specs.declared.result.Result.{Result}
-use Rattle.std.specs.declared.result.Result.the-variants.{Ok, Err}
+use Rattle.std.specs.declared.result.Result.the-variants.{Err}
 use Rattle.std.proofs.shelf.Tests.{cond-true, cond-false, lt-ltb, le-ltb}
 use Rattle.traces.specs.declared.entry.Instruction.{Instruction}
 use Rattle.text.specs.declared.fault.Fault.{Fault}
-use Rattle.text.specs.Faults.{Definite}
-use Rattle.text.specs.Lines.{tooLong}
+use Rattle.text.specs.Faults.{Definite, tooLong}
 use Rattle.text.specs.Texts.{linesOf, linesRead, textRead}
 use Rattle.text.proofs.Finding.{fault-found}
 use Rattle.text.proofs.Fits.{no-ok, ok-same}

@@ -16,8 +16,7 @@ use Rattle.text.specs.declared.token.Symbol.{Symbol}
 use Rattle.text.specs.declared.token.Symbol.the-variants.{Colon, Sync}
 use Rattle.text.specs.declared.fault.Cause.{Cause}
 use Rattle.text.specs.declared.fault.Cause.the-variants.{Misfit, TooLarge, OtherAddress}
-use Rattle.text.specs.Tokens.{Tok, number, fixed, ends, unknown}
-use Rattle.text.specs.Grammar.{Begins, Tokens, States, a-load, a-store, a-swap, a-sync, decimal}
+use Rattle.text.specs.Grammar.{Begins, Tokens, States, a-load, a-store, a-swap, a-sync, decimal, Tok, number, fixed, ends, unknown}
 use Rattle.text.specs.Faults.{Viable, NumberFits, Leads, LineFault, misfit, too-large, other-address, ThreadAt, AddressAt}
 use Rattle.text.proofs.Wants.{Want, Follows, at-end, any-number, new-number, same-number, the-symbol, first, second, states-follow}
 use Rattle.text.proofs.Leading.{Onward, begins-none, begins-one, leads-compare, leads-end, tokens-lead}

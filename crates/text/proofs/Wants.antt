@@ -8,8 +8,7 @@ use Rattle.text.specs.declared.token.Symbol.{Symbol}
 use Rattle.text.specs.declared.token.Symbol.the-variants.{Assign, Equals, Memory, Less, Sync}
 use Rattle.text.specs.declared.statement.Part.{Part}
 use Rattle.text.specs.declared.statement.Part.the-variants.{Thread, Address, SameAddress, Read, Written, Fixed, LineEnd}
-use Rattle.text.specs.Tokens.{Tok, number, fixed, ends, unknown}
-use Rattle.text.specs.Grammar.{a-number, decimal, Writes, States, a-load, a-store, a-swap, a-sync}
+use Rattle.text.specs.Grammar.{a-number, decimal, Writes, States, a-load, a-store, a-swap, a-sync, Tok, number, fixed, ends, unknown}
 use Rattle.text.specs.Lines.{threadParts, cellParts, loadParts, storeParts, swapParts, syncParts}
 
 -- what is wanted next: the line's end, any number, the address, the address once more, a symbol, or one of several symbols

@@ -11,15 +11,12 @@ use Rattle.std.specs.shelf.Lists.{All}
 use Rattle.traces.specs.declared.entry.Instruction.{Instruction}
 use Rattle.traces.specs.declared.entry.Refusal.{Refusal}
 use Rattle.traces.specs.declared.entry.Refusal.the-variants.{UnknownKind, TooManyEntries, TooManyThreads, TooManyAddresses}
-use Rattle.traces.specs.Adding.{admitted}
+use Rattle.traces.specs.Adding.{admitted, admittedAll}
 use Rattle.text.specs.declared.fault.Cause.{Cause}
-use Rattle.text.specs.declared.fault.Cause.the-variants.{Misfit, TooLarge, OtherAddress, Trace}
+use Rattle.text.specs.declared.fault.Cause.the-variants.{TooLong, Misfit, TooLarge, OtherAddress, Trace}
 use Rattle.text.specs.declared.fault.Fault.{Fault}
 use Rattle.text.specs.declared.token.Symbol.{Symbol}
-use Rattle.text.specs.Tokens.{Tok, number, fixed}
-use Rattle.text.specs.Grammar.{Begins, Line, One-reading, Spaces, States, decimal}
-use Rattle.text.specs.Lines.{tooLong}
-use Rattle.text.specs.Texts.{Readable, admittedAll}
+use Rattle.text.specs.Grammar.{Begins, Line, One-reading, Text, Spaces, States, decimal, Tok, number, fixed}
 
 -- some line of the format begins with the tokens ts
 abbrev pub Viable : List Tok → Type 0
@@ -83,6 +80,15 @@ pub data TextFault : List Instruction → ℕ → List ℕ → Fault → Type 0 
   later : (before : List Instruction) (n : ℕ) (bs rest : List ℕ) (is after : List Instruction) (f : Fault) →
       All (λ b. b ≡ 10 → ⊥) bs → Line bs is → admittedAll before is ≡ Ok after → TextFault after (n + 1) rest f →
       TextFault before n (bs ++ 10 ∷ rest) f
+
+-- a text can be read behind the instructions `before`, which gives `after`:
+-- it is short enough, it is of the format, and what it states can be added in sequence
+abbrev pub Readable : List Instruction → List ℕ → List Instruction → Type 0
+Readable before bs after = (length bs ≤ 16384) × ((is : List Instruction) × (Text bs is × (admittedAll before is ≡ Ok after)))
+
+-- the fault of a text that is too long
+abbrev pub tooLong : Fault
+tooLong = record { cause = TooLong; line = 0; column = 0 }
 
 -- a text is refused with f: it is too long, or f is its first fault
 abbrev pub Faulty : List Instruction → List ℕ → Fault → Type 0

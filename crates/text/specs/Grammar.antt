@@ -11,7 +11,13 @@ use Rattle.traces.specs.declared.entry.Kind.the-variants.{Load, Store, Swap, Sy
 use Rattle.traces.specs.Kinds.{address, instruction}
 use Rattle.text.specs.declared.token.Symbol.{Symbol}
 use Rattle.text.specs.declared.token.Symbol.the-variants.{Colon, Assign, Equals, Memory, Open, Close, Less, Greater, Semicolon, Sync}
-use Rattle.text.specs.Tokens.{Tok, number, fixed}
+
+-- what stands at a place of a line: a run of digits, a symbol, the line's end, or a byte that begins no token
+pub data Tok : Type 0 where
+  number : List ℕ → Tok
+  fixed : Symbol → Tok
+  ends : Tok
+  unknown : Tok
 
 -- the bytes of a symbol
 abbrev pub spelling : Symbol → List ℕ

@@ -1,5 +1,4 @@
 -- What a line states, or its first fault, token by token.
-use mathlib.Core.Path.{_≡_}
 use mathlib.Core.Bool.{Bool, true, false, cond}
 use mathlib.Core.List.{List, [], _∷_}
 use Prim.Native.Nat.{ℕ, _^_}
@@ -11,7 +10,7 @@ use Rattle.std.specs.declared.result.Result.the-variants.{Ok, Err}
 use Rattle.traces.specs.declared.entry.Instruction.{Instruction}
 use Rattle.traces.specs.declared.entry.Kind.{Kind}
 use Rattle.traces.specs.declared.entry.Kind.the-variants.{Load, Store, Swap, Sync as SyncKind}
-use Rattle.traces.specs.Adding.{sameAddress}
+use Rattle.traces.specs.Adding.{andThen, sameAddress}
 use Rattle.traces.specs.Kinds.{address, instruction}
 use Rattle.text.specs.declared.token.Symbol.{Symbol}
 use Rattle.text.specs.declared.token.Symbol.the-variants.{Colon, Assign, Equals, Memory, Open, Close, Less, Greater, Semicolon, Sync}
@@ -20,15 +19,10 @@ use Rattle.text.specs.declared.statement.Part.the-variants.{Thread, Address, S
 use Rattle.text.specs.declared.statement.Fields.{Fields}
 use Rattle.text.specs.declared.statement.Statement.{Statement}
 use Rattle.text.specs.declared.fault.Cause.{Cause}
-use Rattle.text.specs.declared.fault.Cause.the-variants.{TooLong, Misfit, TooLarge, OtherAddress}
+use Rattle.text.specs.declared.fault.Cause.the-variants.{Misfit, TooLarge, OtherAddress}
 use Rattle.text.specs.declared.fault.Fault.{Fault}
-use Rattle.text.specs.Tokens.{Tok, number, fixed, ends, unknown, At, skipped, nextToken, past}
-use Rattle.text.specs.Grammar.{decimal}
-
--- go on with what has come, or keep the fault
-abbrev pub andThen : {A B E : Type 0} → Result A E → (A → Result B E) → Result B E
-andThen (Ok x) f = f x
-andThen (Err e) f = Err e
+use Rattle.text.specs.Tokens.{At, skipped, nextToken, past}
+use Rattle.text.specs.Grammar.{decimal, Tok, number, fixed, ends, unknown}
 
 -- the number that digits write, where it has 64 bits
 abbrev pub valueOf : List ℕ → Option ℕ
@@ -168,7 +162,3 @@ startOf n bs = record { line = n; column = 1; rest = bs }
 -- the instruction of a statement
 abbrev pub instructionOf : Statement → Instruction
 instructionOf s = instruction (s .fields .thread) (s .kind) (s .fields .address) (s .fields .read) (s .fields .written)
-
--- the fault of a text that is too long
-abbrev pub tooLong : Fault
-tooLong = record { cause = TooLong; line = 0; column = 0 }

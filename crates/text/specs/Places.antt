@@ -12,7 +12,8 @@ use Rattle.text.specs.declared.reader.Reader.{Reader}
 use Rattle.text.specs.declared.token.Token.{Token}
 use Rattle.text.specs.declared.token.Token.the-variants.{Digits, Fixed, LineEnd, Unknown}
 use Rattle.text.specs.Lines.{startOf}
-use Rattle.text.specs.Tokens.{Tok, number, fixed, ends, unknown, At}
+use Rattle.text.specs.Tokens.{At}
+use Rattle.text.specs.Grammar.{Tok, number, fixed, ends, unknown}
 
 -- the first line of a text, without its end
 abbrev pub firstLine : List ℕ → List ℕ

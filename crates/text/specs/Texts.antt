@@ -2,7 +2,7 @@
 use mathlib.Core.Path.{_≡_}
 use mathlib.Core.Bool.{cond}
 use mathlib.Core.List.{List, [], _∷_}
-use Prim.Native.Nat.{ℕ, _+_, _≤_}
+use Prim.Native.Nat.{ℕ, _+_}
 use lib.Dec.{eqb, ltb}
 use lib.ListN.{length, take}
 use Rattle.std.specs.declared.option.Option.{Option}
@@ -12,13 +12,13 @@ use Rattle.std.specs.declared.result.Result.the-variants.{Ok, Err}
 use Rattle.traces.specs.declared.entry.Instruction.{Instruction}
 use Rattle.traces.specs.declared.entry.Refusal.{Refusal}
 use Rattle.traces.specs.declared.entry.Refusal.the-variants.{UnknownKind, TooManyEntries, TooManyThreads, TooManyAddresses}
-use Rattle.traces.specs.Adding.{admitted}
+use Rattle.traces.specs.Adding.{admitted, andThen}
 use Rattle.text.specs.declared.statement.Statement.{Statement}
 use Rattle.text.specs.declared.fault.Cause.{Cause}
 use Rattle.text.specs.declared.fault.Cause.the-variants.{Trace}
 use Rattle.text.specs.declared.fault.Fault.{Fault}
-use Rattle.text.specs.Grammar.{Text}
-use Rattle.text.specs.Lines.{andThen, instructionOf, lineFrom, startOf, tooLong}
+use Rattle.text.specs.Lines.{instructionOf, lineFrom, startOf}
+use Rattle.text.specs.Faults.{tooLong}
 use Rattle.text.specs.Tokens.{At}
 
 abbrev pub intoFirst : ℕ → List (List ℕ) → List (List ℕ)
@@ -62,16 +62,6 @@ linesRead n is (l ∷ ls) = andThen (lineRead n is l) (λ js. linesRead (n + 1) 
 -- what a text makes of the instructions, or its first fault
 abbrev pub textRead : List Instruction → List ℕ → Result (List Instruction) Fault
 textRead is bs = cond (ltb 16384 (length bs)) (Err tooLong) (linesRead 1 is (linesOf bs))
-
--- the instructions js added behind is, one after the other
-abbrev pub admittedAll : List Instruction → List Instruction → Result (List Instruction) Refusal
-admittedAll is [] = Ok is
-admittedAll is (j ∷ js) = andThen (admitted is j) (λ ks. admittedAll ks js)
-
--- a text can be read behind the instructions `before`, which gives `after`:
--- it is short enough, it is of the format, and what it states can be added in sequence
-abbrev pub Readable : List Instruction → List ℕ → List Instruction → Type 0
-Readable before bs after = (length bs ≤ 16384) × ((is : List Instruction) × (Text bs is × (admittedAll before is ≡ Ok after)))
 
 -- what adding a statement answers, and which instructions it leaves of those before it
 abbrev pub Enters : List Instruction → Statement → Result (Unit {0}) Cause → List Instruction → Type 0

@@ -8,6 +8,7 @@ use Rattle.std.specs.Text.{asciiDigit}
 use Rattle.std.specs.declared.option.Option.{Option}
 use Rattle.std.specs.declared.option.Option.the-variants.{Some, None}
 use Rattle.text.specs.declared.token.Symbol.{Symbol}
+use Rattle.text.specs.Grammar.{Tok, number, fixed, ends, unknown}
 use Rattle.text.specs.declared.token.Symbol.the-variants.{Colon, Assign, Equals, Memory, Open, Close, Less, Greater, Semicolon, Sync}
 
 -- how many bytes at the front pass a test
@@ -52,13 +53,6 @@ symbolWidth Less = 1
 symbolWidth Greater = 1
 symbolWidth Semicolon = 1
 symbolWidth Sync = 4
-
--- what stands at a place of a line: a run of digits, a symbol, the line's end, or a byte that begins no token
-pub data Tok : Type 0 where
-  number : List ℕ → Tok
-  fixed : Symbol → Tok
-  ends : Tok
-  unknown : Tok
 
 -- the token of a symbol, where there is one
 abbrev pub orUnknown : Option Symbol → Tok

@@ -1,13 +1,11 @@
 -- One more instruction: when it is refused, and what is held once it is there.
 use mathlib.Core.Path.{_≡_, refl, sym, ap, subst, _∙_}
 use mathlib.Core.Bool.{Bool, true, false, cond}
-use mathlib.Core.Logic.{⊎-elim}
 use mathlib.Core.List.{List, [], _∷_, _++_, map}
-use Prim.Native.Nat.{ℕ, max, _+_, _≤_, _<_}
+use Prim.Native.Nat.{ℕ, _+_, _≤_, _<_}
 use native.Mathlib.Omega.{arith}
 use lib.Dec.{eqb, ltb, leb}
 use lib.ListN.{length, getD}
-use Rattle.std.specs.Options.{Cases}
 use Rattle.std.specs.Orderings.{Decides}
 use Rattle.std.specs.declared.option.Option.{Option}
 use Rattle.std.specs.declared.option.Option.the-variants.{Some, None}
@@ -20,12 +18,12 @@ use Rattle.traces.specs.declared.entry.Instruction.{Instruction}
 use Rattle.traces.specs.declared.entry.Kind.{Kind}
 use Rattle.traces.specs.declared.entry.Refusal.the-variants.{TooManyEntries, TooManyThreads, TooManyAddresses}
 use Rattle.traces.specs.Adding.{sameAddress, threadIn, addressIn, threadsOf, addressesOf, admitted}
-use Rattle.traces.specs.First.{SlotOf, FirstOrEnd}
+use Rattle.traces.specs.First.{SlotOf}
 use Rattle.traces.specs.Kinds.{address, addressed, instruction, reads, writes}
-use Rattle.traces.specs.Slots.{slot, listed, joined, appearing, grown, Distinct}
+use Rattle.traces.specs.Slots.{slot, listed, joined, grown}
 use Rattle.traces.specs.Stated.{statedBy, stated, ThreadsNamed, AddressesNamed, cleared}
-use Rattle.traces.proofs.Slotting.{Sameness, slot-le, slot-listed, getD-slot, length-listed, getD-listed, distinct-joined, appearing-push, slot-search}
-use Rattle.traces.proofs.Stating.{same-numbers, same-addresses, each-push, Agree, stated-same}
+use Rattle.traces.proofs.Slotting.{Sameness, slot-listed, getD-slot, length-listed, getD-listed, appearing-push, slot-search}
+use Rattle.traces.proofs.Stating.{same-numbers, same-addresses, each-push, stated-same}
 
 -- the slot of what is brought, 0 where nothing is
 abbrev pub slotIn : {X : Type 0} → (X → X → Bool) → List X → Option X → ℕ

@@ -2,14 +2,14 @@
 use mathlib.Core.Path.{_≡_, refl, sym, ap, subst, _∙_}
 use mathlib.Core.Bool.{Bool, true, false, cond}
 use mathlib.Core.Logic.{_⊎_, inl, inr}
-use mathlib.Core.List.{List, [], _∷_, _++_, map}
-use Prim.Native.Nat.{ℕ, zero, suc, min, max, _+_, _≤_, _<_}
+use mathlib.Core.List.{List, [], _∷_, map}
+use Prim.Native.Nat.{ℕ, zero, suc, _+_, _≤_, _<_}
 use native.Mathlib.Omega.{arith}
 use lib.Dec.{eqb}
 use lib.ListN.{length, getD, take}
 use Rattle.std.specs.Of.Vec.{vec-items, vec-len}
 use Rattle.std.specs.declared.option.Option.the-variants.{Some, None}
-use Rattle.std.proofs.shelf.Lists.{take-map, getD-take, length-take, length-take-le, take-all}
+use Rattle.std.proofs.shelf.Lists.{take-map, getD-take, length-map}
 use Rattle.std.proofs.shelf.Tests.{both-ways}
 use Rattle.traces.specs.declared.contents.Contents.{Contents}
 use Rattle.traces.specs.declared.entry.Address.{Address}
@@ -22,7 +22,7 @@ use Rattle.traces.specs.Instructions.{instructions}
 use Rattle.traces.specs.Stated.{statedBy, stated, entryOf, entriesOf, ThreadsNamed, AddressesNamed, cleared, threadReach, addressReach, reach}
 use Rattle.traces.proofs.Slotting.{slot-own, distinct-listed, distinct-joined, distinct-appearing, appearing-take}
 use Rattle.traces.proofs.Stating.{same-numbers, same-addresses, stated-same, entries-again, Needs, reach-appearing}
-use Rattle.traces.proofs.Admitting.{length-joined, slotIn, moreThreads, moreAddresses, moreEntries, plain-more, threads-named-more, addresses-named-more, stated-more, threads-more, addresses-more}
+use Rattle.traces.proofs.Admitting.{moreThreads, moreAddresses, moreEntries, plain-more, threads-named-more, addresses-named-more, stated-more, threads-more, addresses-more}
 
 pub record Held (ts : List ℕ) (ds : List Address) (es : List Entry) : Type 0 where
   pub distinct-t : Distinct 0 ts
@@ -150,3 +150,7 @@ entries-are x =
 -- there are no more addresses than a draft may have
 pub few-addresses : (x : Contents) → length (addressesOf (instructions x)) ≤ 16
 few-addresses x = subst (λ n. n ≤ 16) (x .addresses .ok .0 ∙ ap length (x .«addresses_appear»)) (x .«few_addresses»)
+
+-- there are as many instructions as entries
+pub length-held : (x : Contents) → length (instructions x) ≡ vec-len (x .entries)
+length-held x = length-map (vec-items (x .entries)) (statedBy (vec-items (x .threads)) (vec-items (x .addresses))) ∙ sym (x .entries .ok .0)

@@ -1,7 +1,7 @@
 -- Slots and first appearances, for every type of element with a test of sameness.
 use mathlib.Core.Path.{_≡_, refl, sym, ap, subst, _∙_}
 use mathlib.Core.Bool.{Bool, true, false, cond}
-use mathlib.Core.Logic.{_⊎_, inl, inr, ⊎-elim}
+use mathlib.Core.Logic.{_⊎_, ⊎-elim}
 use mathlib.Core.List.{List, [], _∷_, _++_}
 use Prim.Native.Nat.{ℕ, zero, suc, max, _+_, _≤_, _<_}
 use native.Mathlib.Omega.{arith}
@@ -10,9 +10,9 @@ use lib.ListN.{length, getD, take, drop}
 use Rattle.std.specs.declared.option.Option.{Option}
 use Rattle.std.specs.declared.option.Option.the-variants.{Some, None}
 use Rattle.std.proofs.shelf.Lists.{append-assoc, append-nil, length-push, getD-push, getD-append-left, take-at, take-append-drop}
-use Rattle.std.proofs.shelf.Tests.{cases-bool, cases-lt, cond-true, cond-false, ltb-true, ltb-false, lt-ltb, le-ltb, both-ways}
+use Rattle.std.proofs.shelf.Tests.{cases-bool, cases-lt, cond-true, cond-false, ltb-true, ltb-false, both-ways}
 use Rattle.traces.specs.First.{FirstOrEnd}
-use Rattle.traces.specs.Slots.{slot, listed, joined, appearing, grown, Distinct}
+use Rattle.traces.specs.Slots.{slot, listed, joined, appearing, Distinct}
 
 -- a test of sameness that answers true exactly at equal elements
 pub record Sameness {X : Type 0} (same : X → X → Bool) : Type 0 where

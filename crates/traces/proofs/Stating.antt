@@ -1,11 +1,11 @@
 -- The instructions that entries stand for, as entries come and go.
 use mathlib.Core.Path.{_≡_, refl, sym, ap, subst, _∙_}
 use mathlib.Core.Bool.{Bool, true, false, cond}
-use mathlib.Core.Logic.{_⊎_, inl, inr, ⊎-elim}
+use mathlib.Core.Logic.{_⊎_, ⊎-elim}
 use mathlib.Core.List.{List, [], _∷_, _++_, map}
-use Prim.Native.Nat.{ℕ, zero, suc, max, _+_, _≤_, _<_}
+use Prim.Native.Nat.{ℕ, zero, suc, max, _+_, _<_}
 use native.Mathlib.Omega.{arith}
-use lib.Dec.{eqb, ltb}
+use lib.Dec.{eqb}
 use lib.ListN.{length, getD, take, drop}
 use denote.Ref.{RefT, now}
 use Rattle.std.specs.Finite.{nth}
@@ -13,19 +13,17 @@ use Rattle.std.specs.Options.{mapped}
 use Rattle.std.specs.Places.{Item}
 use Rattle.std.specs.declared.option.Option.{Option}
 use Rattle.std.specs.declared.option.Option.the-variants.{Some, None}
-use Rattle.std.proofs.shelf.Lists.{map-append, length-push, getD-push, getD-take, getD-append-left}
+use Rattle.std.proofs.shelf.Lists.{length-push, getD-push, getD-append-left}
 use Rattle.std.proofs.shelf.Maps.{nth-getD, nth-past}
-use Rattle.std.proofs.shelf.Tests.{cases-bool, cases-lt, cond-true, cond-false, eq-eqb, eqb-true, both-ways}
+use Rattle.std.proofs.shelf.Tests.{cases-lt, eq-eqb, eqb-true}
 use Rattle.traces.specs.declared.entry.Address.{Address}
 use Rattle.traces.specs.declared.entry.Entry.{Entry}
 use Rattle.traces.specs.declared.entry.Instruction.{Instruction}
-use Rattle.traces.specs.declared.entry.Kind.{Kind}
-use Rattle.traces.specs.declared.entry.Kind.the-variants.{Load, Store, Swap, Sync}
-use Rattle.traces.specs.Adding.{sameAddress, threadIn, addressIn}
+use Rattle.traces.specs.Adding.{sameAddress}
 use Rattle.traces.specs.Kinds.{address, addressed, instruction}
 use Rattle.traces.specs.Slots.{slot, listed, joined, appearing, Distinct}
-use Rattle.traces.specs.Stated.{statedBy, stated, entryOf, ThreadsNamed, AddressesNamed, cleared, threadReach, addressReach, reach}
-use Rattle.traces.proofs.Slotting.{Sameness, slot-le, slot-own, slot-appearing, length-listed}
+use Rattle.traces.specs.Stated.{statedBy, stated, entryOf, ThreadsNamed, AddressesNamed, cleared, reach}
+use Rattle.traces.proofs.Slotting.{Sameness, slot-own, slot-appearing, length-listed}
 
 pub same-numbers : Sameness eqb
 same-numbers = record { reflexive = λ x. eq-eqb x x refl; faithful = λ x y. eqb-true x y }

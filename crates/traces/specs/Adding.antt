@@ -57,3 +57,13 @@ added is t k a r w = addedAs is t (kindOf k) a r w
 abbrev pub Leaves : {F : Type 0} → Result (List Instruction) F → List Instruction → Result (Unit {0}) F → List Instruction → Type 0
 Leaves made before (Ok _) after = made ≡ Ok after
 Leaves made before (Err f) after = (made ≡ Err f) × (after ≡ before)
+
+-- go on with what has come, or keep the fault
+abbrev pub andThen : {A B E : Type 0} → Result A E → (A → Result B E) → Result B E
+andThen (Ok x) f = f x
+andThen (Err e) f = Err e
+
+-- the instructions js added behind is, one after the other
+abbrev pub admittedAll : List Instruction → List Instruction → Result (List Instruction) Refusal
+admittedAll is [] = Ok is
+admittedAll is (j ∷ js) = andThen (admitted is j) (λ ks. admittedAll ks js)

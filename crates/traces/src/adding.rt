@@ -56,7 +56,7 @@ impl Contents {
     ) -> Result<(), Refusal>
         ensures { λ r. ⌜ Leaves (admitted (instructions (now (self .entry))) (instruction thread kind address read written)) (instructions (now (self .entry))) r (instructions (now (self .exit))) ⌝ }
     {
-        if self.entries.len() >= MAX_ENTRIES {
+        if self.len() >= MAX_ENTRIES {
             return Err(Refusal::TooManyEntries);
         }
         let added = Instruction::new(thread, kind, address, read, written);

@@ -1,6 +1,5 @@
 use mathlib.Core.Path.{refl, ap}
 use Prim.Native.Nat.{_+_}
-use Rattle.text.specs.Tokens.{At}
 use Rattle.text.proofs.Moving.{take-moved}
 use Rattle.text.proofs.reader.Reader.advance.Needs as need
 

@@ -1,9 +1,8 @@
-use mathlib.Core.Path.{_≡_, refl, ap}
-use Prim.Native.Nat.{_+_, _≤_}
+use mathlib.Core.Path.{refl, ap}
+use Prim.Native.Nat.{_+_}
 use native.Mathlib.Omega.{arith}
-use lib.ListN.{length, drop}
+use lib.ListN.{drop}
 use Rattle.std.proofs.shelf.Lists.{length-drop}
-use Rattle.text.specs.Places.{firstLine}
 use Rattle.text.proofs.Moving.{line-le, line-rest, line-behind, drop-past}
 use Rattle.text.proofs.reader.Reader.next_line.Needs as need
 

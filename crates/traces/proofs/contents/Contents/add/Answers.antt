@@ -16,7 +16,7 @@ use Rattle.traces.specs.Slots.{grown, joined, slot}
 use Rattle.traces.specs.Stated.{ThreadsNamed, AddressesNamed, stated}
 use Rattle.traces.proofs.Slotting.{length-listed}
 use Rattle.traces.proofs.Admitting.{slotIn, slot-number-at, slot-address-at, grown-joined, moreThreads, moreAddresses, moreEntries, refused-entries, refused-thread, refused-address, accepted-all, length-joined, stated-more}
-use Rattle.traces.proofs.Holding.{Held, held, held-more, held-at, stated-at}
+use Rattle.traces.proofs.Holding.{Held, held, length-held, held-more, held-at, stated-at}
 use Rattle.traces.proofs.contents.Contents.add.Needs as need
 use Rattle.traces.proofs.contents.Contents.add.Needs.{After-push-reserved}
 
@@ -24,12 +24,14 @@ pub returns-then-len-ge-MAX-ENTRIES : need.returns-then-len-ge-MAX-ENTRIES
 returns-then-len-ge-MAX-ENTRIES c =
     let old = c .args .self .now in
     let h = held old in
+    let n = c .len .ensures ∙ length-held old in
     (refused-entries (vec-items (old .threads)) (vec-items (old .addresses)) (vec-items (old .entries)) (c .args .thread) (c .args .kind) (c .args .address) (c .args .read) (c .args .written) (h .appear-t) (h .appear-d) (omega arith), refl)
 
 pub returns-then-thread-slot-ge-MAX-THREADS : need.returns-then-thread-slot-ge-MAX-THREADS
 returns-then-thread-slot-ge-MAX-THREADS c =
     let old = c .args .self .now in
     let h = held old in
+    let n = c .len .ensures ∙ length-held old in
     let at : c .slot-of-thread-slot .result ≡ slot eqb (vec-items (old .threads)) (c .args .thread) = slot-number-at (c .as-slice .result .now) (vec-items (old .threads)) (c .args .thread) (c .slot-of-thread-slot .result) (c .as-slice .ensures .value) (c .slot-of-thread-slot .ensures) in
     (refused-thread (vec-items (old .threads)) (vec-items (old .addresses)) (vec-items (old .entries)) (c .args .thread) (c .args .kind) (c .args .address) (c .args .read) (c .args .written) (h .appear-t) (h .appear-d) (omega arith) (omega arith), refl)
 
@@ -37,6 +39,7 @@ pub returns-then-address-slot-ge-MAX-ADDRESSES : need.returns-then-address-slot-
 returns-then-address-slot-ge-MAX-ADDRESSES c =
     let old = c .args .self .now in
     let h = held old in
+    let n = c .len .ensures ∙ length-held old in
     let new = instruction (c .args .thread) (c .args .kind) (c .args .address) (c .args .read) (c .args .written) in
     let t : c .slot-of-thread-slot .result ≡ slot eqb (vec-items (old .threads)) (c .args .thread) = slot-number-at (c .as-slice .result .now) (vec-items (old .threads)) (c .args .thread) (c .slot-of-thread-slot .result) (c .as-slice .ensures .value) (c .slot-of-thread-slot .ensures) in
     let a : c .slot-of-address-slot .result ≡ slotIn sameAddress (vec-items (old .addresses)) (addressIn new) = slot-address-at (c .as-slice-2 .result .now) (vec-items (old .addresses)) (c .location-location .result) (addressIn new) (c .slot-of-address-slot .result) (c .as-slice-2 .ensures .value) (c .location-location .ensures ∙ ap addressIn (c .new-added .ensures)) (c .slot-of-address-slot .ensures) in
@@ -87,12 +90,14 @@ module _ (c : After-push-reserved) where
   admitted-now : admitted (stated ts ds es) new ≡ Ok (stated (vec-items (c .enlist .last .items)) (vec-items (c .enlist-2 .last .items)) (vec-items (c .push-reserved .last .self)))
   admitted-now =
       let h = held (c .args .self .now) in
+      let n = c .len .ensures ∙ length-held (c .args .self .now) in
       accepted-all ts ds es (c .args .thread) (c .args .kind) (c .args .address) (c .args .read) (c .args .written) (h .appear-t) (h .appear-d) (omega arith) (omega arith) (omega (arith, thread-slot)) (omega arith) (omega (arith, address-slot))
       ∙ ap Ok (sym (stated-at _ _ _ _ _ _ threads-now addresses-now entries-now ∙ stated-more ts ds es (c .args .thread) (c .args .kind) (c .args .address) (c .args .read) (c .args .written) (h .named-t) (h .named-d)))
 
 pub ghost-self : need.ghost-self
 ghost-self c =
     let h = held-now c in
+    let n = c .len .ensures ∙ length-held (c .args .self .now) in
     let t = length-listed eqb (ts c) (c .args .thread) in
     let threads-length : vec-len (c .enlist .last .items) ≡ max (length (ts c)) (slot eqb (ts c) (c .args .thread) + 1) = c .enlist .last .items .ok .0 ∙ ap length (threads-now c) ∙ t in
     let addresses-length : vec-len (c .enlist-2 .last .items) ≡ length (joined sameAddress (ds c) (addressIn (new c))) = c .enlist-2 .last .items .ok .0 ∙ ap length (addresses-now c) in (
@@ -123,3 +128,6 @@ ghost-self c =
 
 pub returns : need.returns
 returns c = admitted-now (need.at·returns c .After-push-reserved)
+
+pub push-reserved-requires : need.push-reserved-requires
+push-reserved-requires c κs = omega (arith, c .len .ensures ∙ length-held (c .args .self .now))

@@ -1,9 +1,9 @@
 use mathlib.Core.Path.{_≡_, sym, ap, subst, _∙_}
 use mathlib.Core.List.{List}
-use Prim.Native.Nat.{ℕ, _≤_}
+use Prim.Native.Nat.{ℕ}
 use native.Mathlib.Omega.{arith}
-use lib.ListN.{length, take}
-use Rattle.std.specs.Of.Vec.{vec-items, vec-len}
+use lib.ListN.{take}
+use Rattle.std.specs.Of.Vec.{vec-items}
 use Rattle.traces.specs.declared.entry.Address.{Address}
 use Rattle.traces.specs.declared.entry.Entry.{Entry}
 use Rattle.traces.specs.Stated.{ThreadsNamed, AddressesNamed, addressReach, reach, threadReach}
