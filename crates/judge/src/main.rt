@@ -2,6 +2,7 @@
 use std::error::AnyError;
 use std::io::Read;
 use text::Fault;
+use text::MAX_BYTES;
 use text::read;
 use traces::Draft;
 use traces::Instruction;
@@ -9,7 +10,7 @@ use traces::Kind;
 use traces::Trace;
 
 // One byte more than a text may have, so that a longer one is seen to be too long.
-const MOST_BYTES: u64 = 16385;
+const MOST_BYTES: u64 = MAX_BYTES as u64 + 1;
 
 fn print_instruction(
     rt: &LibcRuntime,

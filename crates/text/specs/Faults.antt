@@ -55,7 +55,7 @@ AddressAt bs column =
     (thread : List ℕ) × ((symbols : List Symbol) × ((rest : List ℕ) × ((ds : List ℕ) × ((more : List ℕ) ×
     (Leads bs (number thread ∷ map fixed symbols) rest × Begins rest (number ds) more × (column + length rest ≡ length bs + 1))))))
 
--- where a draft's refusal of the line bs is placed
+-- where a draft's refusal of the line bs is placed; no line states an unknown kind
 abbrev pub RefusedAt : Refusal → List ℕ → ℕ → Type 0
 RefusedAt UnknownKind bs column = ⊥
 RefusedAt TooManyEntries bs column = ThreadAt bs column
@@ -99,7 +99,7 @@ abbrev pub Reads : List Instruction → List ℕ → Result (Unit {0}) Fault →
 Reads before bs (Ok _) after = Readable before bs after
 Reads before bs (Err f) after = Faulty before bs f × (after ≡ before)
 
--- a text has one reading, and behind given instructions it either can be read, to one end, or has one first fault
+-- a text has at most one reading; behind given instructions it leads to at most one end and has at most one first fault, and never both
 pub record Definite (before : List Instruction) (bs : List ℕ) : Type 0 where
   pub one-reading : One-reading bs
   pub one-end : (x y : List Instruction) → Readable before bs x → Readable before bs y → x ≡ y

@@ -12,7 +12,7 @@ use Rattle.traces.specs.Kinds.{address, instruction}
 use Rattle.text.specs.declared.token.Symbol.{Symbol}
 use Rattle.text.specs.declared.token.Symbol.the-variants.{Colon, Assign, Equals, Memory, Open, Close, Less, Greater, Semicolon, Sync}
 
--- what stands at a place of a line: a run of digits, a symbol, the line's end, or a byte that begins no token
+-- a token: a run of digits or a symbol. No bytes spell the last two cases, which stand for a line's end and for a byte that begins no token
 pub data Tok : Type 0 where
   number : List ℕ → Tok
   fixed : Symbol → Tok
@@ -53,12 +53,12 @@ pub data Tokens : List ℕ → List Tok → Type 0 where
   done : {bs : List ℕ} → Spaces bs → Tokens bs []
   more : (gap bs rest : List ℕ) {t : Tok} {ts : List Tok} → Spaces gap → Begins bs t rest → Tokens rest ts → Tokens (gap ++ bs) (t ∷ ts)
 
--- the number that digits write behind the number n
+-- the number that digits denote, read behind the number n
 abbrev pub decimal : ℕ → List ℕ → ℕ
 decimal n [] = n
 decimal n (b ∷ bs) = decimal (n * 10 + (b - 48)) bs
 
--- ds is a run of digits, and writes the number n, which has 64 bits
+-- ds is a run of digits that denotes the number n, which fits in 64 bits
 abbrev pub Writes : List ℕ → ℕ → Type 0
 Writes ds n = Spells ds (number ds) × (decimal 0 ds ≡ n) × (n < 2 ^ 64)
 
@@ -83,6 +83,6 @@ pub data Text : List ℕ → List Instruction → Type 0 where
   last-line : {bs : List ℕ} {is : List Instruction} → All (λ b. b ≡ 10 → ⊥) bs → Line bs is → Text bs is
   more-lines : (bs rest : List ℕ) (is js : List Instruction) → All (λ b. b ≡ 10 → ⊥) bs → Line bs is → Text rest js → Text (bs ++ 10 ∷ rest) (is ++ js)
 
--- each text has one reading
+-- a text has at most one reading
 abbrev pub One-reading : List ℕ → Type 0
 One-reading bs = (is js : List Instruction) → Text bs is → Text bs js → is ≡ js

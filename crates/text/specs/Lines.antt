@@ -24,10 +24,11 @@ use Rattle.text.specs.declared.fault.Fault.{Fault}
 use Rattle.text.specs.Tokens.{At, skipped, nextToken, past}
 use Rattle.text.specs.Grammar.{decimal, Tok, number, fixed, ends, unknown}
 
--- the number that digits write, where it has 64 bits
+-- the number that digits denote, where it fits in 64 bits
 abbrev pub valueOf : List ℕ → Option ℕ
 valueOf ds = cond (ltb (decimal 0 ds) (2 ^ 64)) (Some (decimal 0 ds)) None
 
+-- the number, or the cause of a number that is too large
 abbrev pub orTooLarge : Option ℕ → Result ℕ Cause
 orTooLarge (Some n) = Ok n
 orTooLarge None = Err TooLarge
@@ -52,12 +53,14 @@ code Greater = 7
 code Semicolon = 8
 code Sync = 9
 
+-- whether a token is the symbol s
 abbrev pub isSymbol : Symbol → Tok → Bool
 isSymbol s (fixed u) = eqb (code u) (code s)
 isSymbol s (number ds) = false
 isSymbol s ends = false
 isSymbol s unknown = false
 
+-- whether a token is the line's end
 abbrev pub isEnd : Tok → Bool
 isEnd (fixed s) = false
 isEnd (number ds) = false
@@ -88,6 +91,7 @@ accepted Written f c t = andThen (numberIn t) (put Written f c)
 abbrev pub faultAt : At → Cause → Fault
 faultAt a e = record { cause = e; line = a .line; column = a .column }
 
+-- a cause becomes a fault at a place
 abbrev pub placed : {A : Type 0} → At → Result A Cause → Result A Fault
 placed a (Ok x) = Ok x
 placed a (Err e) = Err (faultAt a e)
@@ -123,6 +127,7 @@ swapParts =
 abbrev pub syncParts : List Part
 syncParts = LineEnd ∷ []
 
+-- the statement of a kind from the fields that were read
 abbrev pub statement : Kind → Result (Fields × At) Fault → Result Statement Fault
 statement k (Ok x) = Ok (record { kind = k; fields = x .0 })
 statement k (Err e) = Err e
@@ -142,9 +147,11 @@ body f a =
     (cond (isSymbol Sync (nextToken a)) (statement SyncKind (parts syncParts f (past a)))
     (Err (faultAt (skipped a) Misfit))))
 
+-- the fields before anything is read
 abbrev pub noFields : Fields
 noFields = record { thread = 0; «thread_column» = 0; address = address 0; «address_column» = 0; read = 0; written = 0 }
 
+-- a statement as what a line states
 abbrev pub someStatement : Result Statement Fault → Result (Option Statement) Fault
 someStatement (Ok s) = Ok (Some s)
 someStatement (Err e) = Err e

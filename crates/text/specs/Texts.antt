@@ -21,6 +21,7 @@ use Rattle.text.specs.Lines.{instructionOf, lineFrom, startOf}
 use Rattle.text.specs.Faults.{tooLong}
 use Rattle.text.specs.Tokens.{At}
 
+-- the lines with the byte b at the front of the first
 abbrev pub intoFirst : ℕ → List (List ℕ) → List (List ℕ)
 intoFirst b [] = (b ∷ []) ∷ []
 intoFirst b (l ∷ ls) = (b ∷ l) ∷ ls
@@ -37,6 +38,7 @@ columnOf TooManyEntries s = s .fields .«thread_column»
 columnOf TooManyThreads s = s .fields .«thread_column»
 columnOf TooManyAddresses s = s .fields .«address_column»
 
+-- a refusal becomes a fault in the line n
 abbrev pub placedIn : ℕ → Statement → Result (List Instruction) Refusal → Result (List Instruction) Fault
 placedIn n s (Ok is) = Ok is
 placedIn n s (Err e) = Err (record { cause = Trace e; line = n; column = columnOf e s })

@@ -128,15 +128,15 @@ impl<'a> Reader<'a> {
         self.line_end = end_of_line(self.text, self.place);
     }
 
-    // Goes `width` bytes on in the line.
-    fn advance(&mut self, width: usize)
-        requires { ⌜ now self .place + width ≤ now self .«line_end» ⌝ }
-        ensures at { λ _. ⌜ at (now (self .exit)) ≡ on width (at (now (self .entry))) ⌝ }
+    // Goes `count` bytes on in the line.
+    fn advance(&mut self, count: usize)
+        requires { ⌜ now self .place + count ≤ now self .«line_end» ⌝ }
+        ensures at { λ _. ⌜ at (now (self .exit)) ≡ on count (at (now (self .entry))) ⌝ }
         ensures behind { λ _. ⌜ behind (now (self .exit)) ≡ behind (now (self .entry)) ⌝ }
         ensures end { λ _. ⌜ now (self .exit) .«line_end» ≡ now (self .entry) .«line_end» ⌝ }
     {
-        self.place += width;
-        self.column += width;
+        self.place += count;
+        self.column += count;
     }
 
     // Whether nothing but spaces is left of the line.

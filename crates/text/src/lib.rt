@@ -10,4 +10,5 @@ mod token;
 pub use fault::Cause;
 pub use fault::CauseFromRefusal;
 pub use fault::Fault;
+pub use reading::MAX_BYTES;
 pub use reading::read;

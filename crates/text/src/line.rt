@@ -26,7 +26,7 @@ const NO_FIELDS: Fields = Fields {
     written: 0,
 };
 
-// The number that digits write, where it has 64 bits.
+// The number that digits denote, where it fits in 64 bits.
 fn value_of(digits: &[u8]) -> Option<u64>
     ensures { λ r. ⌜ r ≡ valueOf (now (digits .entry)) ⌝ }
 {

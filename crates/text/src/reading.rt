@@ -7,7 +7,7 @@ ghost use Rattle.traces.specs.Instructions.{instructions};
 ghost use Rattle.text.specs.declared.fault.Cause.the-variants.{Trace};
 ghost use Rattle.text.specs.Faults.{Definite, Reads};
 ghost use Rattle.text.specs.Places.{SameLine, at};
-ghost use Rattle.text.specs.Texts.{Enters, ReadsOn, columnOf, lineReadFrom};
+ghost use Rattle.text.specs.Texts.{Enters, ReadsOn, columnOf, lineReadFrom, textRead};
 use crate::fault::Cause;
 use crate::fault::CauseFromRefusal;
 use crate::fault::Fault;
@@ -16,7 +16,8 @@ use crate::statement::Statement;
 use traces::Draft;
 use traces::Refusal;
 
-const MAX_BYTES: usize = 16384;
+// The most bytes that a text may have.
+pub const MAX_BYTES: usize = 16384;
 
 // Where a draft's refusal of a statement is placed: at its first address, or at its thread number.
 fn column_of(cause: Cause, statement: Statement) -> usize
@@ -79,6 +80,7 @@ fn read_lines(draft: &mut Draft, text: &[u8]) -> Result<(), Fault>
 // Reads a text into the draft: all of it, or nothing and its first fault.
 pub fn read(draft: &mut Draft, text: &[u8]) -> Result<(), Fault>
     ensures reads { λ r. ⌜ Reads (instructions (now (draft .entry) .contents)) (now (text .entry)) r (instructions (now (draft .exit) .contents)) ⌝ }
+    ensures calculated { λ r. ⌜ Leaves (textRead (instructions (now (draft .entry) .contents)) (now (text .entry))) (instructions (now (draft .entry) .contents)) r (instructions (now (draft .exit) .contents)) ⌝ }
     ensures definite { λ _. ⌜ Definite (instructions (now (draft .entry) .contents)) (now (text .entry)) ⌝ }
 {
     if text.len() > MAX_BYTES {

@@ -4,6 +4,7 @@
 mod tests {
     use std::test::*;
     use text::read;
+    use traces::Address;
     use traces::Draft;
     use traces::Instruction;
 
@@ -149,7 +150,7 @@ mod tests {
         check_eq(fault_of(&mut draft, text.as_slice()), (10, 3, 0, 0))
     }
 
-    // The kind's number, thread, address and values of an instruction.
+    // The thread, the kind's number, the address and the two values of an instruction.
     fn fields_of(instruction: Instruction) -> (u64, u64, u64, u64, u64) {
         (
             instruction.thread,
@@ -158,6 +159,32 @@ mod tests {
             instruction.read,
             instruction.written,
         )
+    }
+
+    #[test]
+    fn adding_directly(rt: LibcRuntime) -> Result<(), Fail> {
+        let mut draft = Draft::new(rt.alloc())?;
+        let origin = Address { number: 7 };
+        for _ in 0..64 {
+            check(draft.add(3, 3, origin, 5, 6).is_ok())?;
+        }
+        for kind in [4, 255, u64::MAX] {
+            match draft.add(9, kind, origin, 0, 0) {
+                Ok(()) => return Err(Fail::new("an unknown kind was added")),
+                Err(refusal) => check_eq((refusal.number(), refusal.layer()), (1, 1))?,
+            }
+        }
+        match draft.add(9, 0, origin, 0, 0) {
+            Ok(()) => return Err(Fail::new("a sixty-fifth entry was added")),
+            Err(refusal) => check_eq((refusal.number(), refusal.layer()), (2, 1))?,
+        }
+        let trace = draft.seal();
+        check_eq(
+            (trace.len(), trace.thread_count(), trace.address_count()),
+            (64, 1, 0),
+        )?;
+        let last = trace.instruction(63).ok_or("an instruction is missing")?;
+        check_eq(fields_of(last), (3, 3, 0, 0, 0))
     }
 
     #[test]

@@ -45,11 +45,12 @@ admitted is i =
     (cond (ltb 16 (length (addressesOf (is ++ i ∷ [])))) (Err TooManyAddresses)
     (Ok (is ++ i ∷ []))))
 
--- the same where the kind is given by its number
+-- the same for an instruction by its fields, where its kind may be unknown
 abbrev pub addedAs : List Instruction → ℕ → Option Kind → Address → ℕ → ℕ → Result (List Instruction) Refusal
 addedAs is t None a r w = Err UnknownKind
 addedAs is t (Some k) a r w = admitted is (instruction t k a r w)
 
+-- the same where the kind is given by its number
 abbrev pub added : List Instruction → ℕ → ℕ → Address → ℕ → ℕ → Result (List Instruction) Refusal
 added is t k a r w = addedAs is t (kindOf k) a r w
 

@@ -8,7 +8,7 @@ pub enum Kind {
     Sync,
 }
 
-// Where an instruction reads or writes. Addresses are only ever compared.
+// Where an instruction reads or writes. Drafts and traces do nothing with addresses but compare them.
 #[derive(Clone, Copy, PartialEq)]
 pub struct Address {
     pub number: u64,

@@ -12,8 +12,10 @@ pub returns-then-text-gt-MAX-BYTES : need.returns-then-text-gt-MAX-BYTES
 returns-then-text-gt-MAX-BYTES c =
     let before = instructions (c .args .draft .now .contents) in
     let bs = c .args .text .now in
+    let e = text-long before bs (omega arith) in
     record {
-      reads = (faulty-from before bs _ (few-addresses (c .args .draft .now .contents)) (text-long before bs (omega arith)), refl);
+      reads = (faulty-from before bs _ (few-addresses (c .args .draft .now .contents)) e, refl);
+      calculated = (e, refl);
       definite = definite before bs;
     }
 
@@ -21,8 +23,10 @@ pub returns-in-Ok : need.returns-in-Ok
 returns-in-Ok c =
     let before = instructions (c .args .draft .now .contents) in
     let bs = c .args .text .now in
+    let e = text-short before bs (omega arith) ∙ c .in-Ok .ensures tt in
     record {
-      reads = readable-from before bs _ (text-short before bs (omega arith) ∙ c .in-Ok .ensures tt);
+      reads = readable-from before bs _ e;
+      calculated = e;
       definite = definite before bs;
     }
 
@@ -32,10 +36,10 @@ returns-in-Err c =
     let bs = c .args .text .now in
     let got = c .in-Err .ensures tt in
     let after = instructions (c .read-lines .last .draft .contents) in
+    let e = text-short before bs (omega arith) ∙ got .0 in
+    let same = c .truncate .ensures ∙ ap (λ n. take n after) (c .len-before .ensures) ∙ got .1 in
     record {
-      reads = (
-        faulty-from before bs _ (few-addresses (c .args .draft .now .contents)) (text-short before bs (omega arith) ∙ got .0),
-        c .truncate .ensures ∙ ap (λ n. take n after) (c .len-before .ensures) ∙ got .1,
-      );
+      reads = (faulty-from before bs _ (few-addresses (c .args .draft .now .contents)) e, same);
+      calculated = (e, same);
       definite = definite before bs;
     }

@@ -7,7 +7,7 @@ pub returns : need.returns
 returns c =
     let r = c .args .self .now in
     record {
-      at = ap (λ l. record { line = r .line; column = r .column + c .args .width; rest = l }) (take-moved (r .text .now) (r .place) (r .«line_end») (c .args .width) (c .pre));
+      at = ap (λ l. record { line = r .line; column = r .column + c .args .count; rest = l }) (take-moved (r .text .now) (r .place) (r .«line_end») (c .args .count) (c .pre));
       behind = refl;
       end = refl;
     }
