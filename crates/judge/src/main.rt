@@ -1,7 +1,7 @@
 // Reads a trace from standard input and prints what it read, or the fault.
 use std::error::AnyError;
 use std::io::Read;
-use text::Fault;
+use text::FaultDisplay;
 use text::MAX_BYTES;
 use text::read;
 use traces::Draft;
@@ -49,25 +49,16 @@ fn print_trace(rt: &LibcRuntime, trace: &Trace) -> Result<(), AnyError> {
     Ok(())
 }
 
-fn print_fault(rt: &LibcRuntime, fault: Fault) -> Result<(), AnyError> {
-    let number = fault.cause.number();
-    let layer = fault.cause.layer();
-    let line = fault.line;
-    let column = fault.column;
-    println!(
-        rt,
-        "fault {number} layer {layer} line {line} column {column}"
-    )?;
-    Ok(())
-}
-
 fn judge(rt: &LibcRuntime) -> Result<(), AnyError> {
     let mut text = Vec::new(rt.alloc());
     rt.stdin().take(MOST_BYTES).read_to_end(&mut text)?;
     let mut draft = Draft::new(rt.alloc())?;
     match read(&mut draft, text.as_slice()) {
         Ok(()) => print_trace(rt, &draft.seal()),
-        Err(fault) => print_fault(rt, fault),
+        Err(fault) => {
+            println!(rt, "{fault}")?;
+            Ok(())
+        }
     }
 }
 

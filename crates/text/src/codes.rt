@@ -1,7 +1,10 @@
 // Faults by their numbers and layers.
 ghost use mathlib.Core.Path.{_≡_};
-ghost use Rattle.text.specs.Numbers.{causeLayer, causeNumber};
+ghost use Rattle.std.specs.declared.option.Option.the-variants.{Some};
+ghost use Rattle.text.specs.Numbers.{causeLayer, causeNumber, shownFault};
 use crate::fault::Cause;
+use crate::fault::Fault;
+use std::fmt;
 
 impl Cause {
     pub fn number(self) -> u8
@@ -24,5 +27,20 @@ impl Cause {
             Cause::TooLong | Cause::Misfit | Cause::TooLarge | Cause::OtherAddress => 3,
             Cause::Trace(refusal) => refusal.layer(),
         }
+    }
+}
+
+pub impl fmt::Display for Fault as FaultDisplay {
+    ghost shown = { λ fault. Some (shownFault fault) };
+
+    fn fmt<W: fmt::Write>(&self, f: &mut fmt::Formatter<W>) -> fmt::Result {
+        let number = self.cause.number();
+        let layer = self.cause.layer();
+        let line = self.line;
+        let column = self.column;
+        write!(
+            f,
+            "fault {number} layer {layer} line {line} column {column}"
+        )
     }
 }

@@ -7,6 +7,7 @@ mod reading;
 mod statement;
 mod token;
 
+pub use codes::FaultDisplay;
 pub use fault::Cause;
 pub use fault::CauseFromRefusal;
 pub use fault::Fault;

@@ -47,10 +47,7 @@ fn number_in(token: Token) -> Result<u64, Cause>
     ensures { λ r. ⌜ r ≡ numberIn (tok (token .entry)) ⌝ }
 {
     match token {
-        Token::Digits(run) => match value_of(run) {
-            Some(n) => Ok(n),
-            None => Err(Cause::TooLarge),
-        },
+        Token::Digits(run) => value_of(run).ok_or(Cause::TooLarge),
         Token::Fixed(_) | Token::LineEnd | Token::Unknown => Err(Cause::Misfit),
     }
 }

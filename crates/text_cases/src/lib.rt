@@ -3,6 +3,7 @@
 #[cfg(test)]
 mod tests {
     use std::test::*;
+    use text::FaultDisplay;
     use text::read;
     use traces::Address;
     use traces::Draft;
@@ -10,59 +11,116 @@ mod tests {
 
     // A text, and the number, layer, line and column of its fault. Zeros stand for a text that is read.
     #[derive(Clone, Copy)]
-    struct Case(&'static [u8], u8, u8, usize, usize);
+    struct Case {
+        text: &'static [u8],
+        fault: (u8, u8, usize, usize),
+    }
 
     const CASES: [Case; 26] = [
-        Case(b"", 0, 0, 0, 0),
-        Case(b"\n\n   \n", 0, 0, 0, 0),
-        Case(b"0: M[1] == 2", 0, 0, 0, 0),
-        Case(b"0:M[1]:=2\n", 0, 0, 0, 0),
-        Case(
-            b" 0 : < M [ 1 ] == 2 ; M [ 01 ] := 3 > \n1: sync",
-            0,
-            0,
-            0,
-            0,
-        ),
-        Case(b"0: M[1] = 1", 11, 3, 1, 9),
-        Case(b"0: <M[1] == 0; M[2] := 5>", 13, 3, 1, 18),
-        Case(b"0: syncsync", 11, 3, 1, 8),
-        Case(b"0:", 11, 3, 1, 3),
-        Case(b"0:  ", 11, 3, 1, 5),
-        Case(b"0:= M[1] := 1", 11, 3, 1, 2),
-        Case(b"M[1] := 1", 11, 3, 1, 1),
-        Case(b"0: M[1] == 1 1", 11, 3, 1, 14),
-        Case(b"0: M[1] == 1\r\n", 11, 3, 1, 13),
-        Case(b"0: M[1] == 1\n\r\n", 11, 3, 2, 1),
-        Case(b"0: M\t[1] == 1", 11, 3, 1, 5),
-        Case(b"0: syn", 11, 3, 1, 4),
-        Case(
-            b"0: M[18446744073709551615] := 18446744073709551615",
-            0,
-            0,
-            0,
-            0,
-        ),
-        Case(b"0: M[18446744073709551616] := 1", 12, 3, 1, 6),
-        Case(
-            b"  \n0: sync\n1: M[3] == 18446744073709551616",
-            12,
-            3,
-            3,
-            12,
-        ),
-        Case(b"18446744073709551616: sync", 12, 3, 1, 1),
-        Case(
-            b"0: <M[1] == 0; M[18446744073709551616] := 5>",
-            12,
-            3,
-            1,
-            18,
-        ),
-        Case(b"0: sync 18446744073709551616", 11, 3, 1, 9),
-        Case(b"0: <M[1] == 0; M[1] := 5", 11, 3, 1, 25),
-        Case(b"0: <M[1] := 0; M[1] := 5>", 11, 3, 1, 10),
-        Case(b"0: M[1] == 0\n1: M[1 == 0", 11, 3, 2, 8),
+        Case {
+            text: b"",
+            fault: (0, 0, 0, 0),
+        },
+        Case {
+            text: b"\n\n   \n",
+            fault: (0, 0, 0, 0),
+        },
+        Case {
+            text: b"0: M[1] == 2",
+            fault: (0, 0, 0, 0),
+        },
+        Case {
+            text: b"0:M[1]:=2\n",
+            fault: (0, 0, 0, 0),
+        },
+        Case {
+            text: b" 0 : < M [ 1 ] == 2 ; M [ 01 ] := 3 > \n1: sync",
+            fault: (0, 0, 0, 0),
+        },
+        Case {
+            text: b"0: M[1] = 1",
+            fault: (11, 3, 1, 9),
+        },
+        Case {
+            text: b"0: <M[1] == 0; M[2] := 5>",
+            fault: (13, 3, 1, 18),
+        },
+        Case {
+            text: b"0: syncsync",
+            fault: (11, 3, 1, 8),
+        },
+        Case {
+            text: b"0:",
+            fault: (11, 3, 1, 3),
+        },
+        Case {
+            text: b"0:  ",
+            fault: (11, 3, 1, 5),
+        },
+        Case {
+            text: b"0:= M[1] := 1",
+            fault: (11, 3, 1, 2),
+        },
+        Case {
+            text: b"M[1] := 1",
+            fault: (11, 3, 1, 1),
+        },
+        Case {
+            text: b"0: M[1] == 1 1",
+            fault: (11, 3, 1, 14),
+        },
+        Case {
+            text: b"0: M[1] == 1\r\n",
+            fault: (11, 3, 1, 13),
+        },
+        Case {
+            text: b"0: M[1] == 1\n\r\n",
+            fault: (11, 3, 2, 1),
+        },
+        Case {
+            text: b"0: M\t[1] == 1",
+            fault: (11, 3, 1, 5),
+        },
+        Case {
+            text: b"0: syn",
+            fault: (11, 3, 1, 4),
+        },
+        Case {
+            text: b"0: M[18446744073709551615] := 18446744073709551615",
+            fault: (0, 0, 0, 0),
+        },
+        Case {
+            text: b"0: M[18446744073709551616] := 1",
+            fault: (12, 3, 1, 6),
+        },
+        Case {
+            text: b"  \n0: sync\n1: M[3] == 18446744073709551616",
+            fault: (12, 3, 3, 12),
+        },
+        Case {
+            text: b"18446744073709551616: sync",
+            fault: (12, 3, 1, 1),
+        },
+        Case {
+            text: b"0: <M[1] == 0; M[18446744073709551616] := 5>",
+            fault: (12, 3, 1, 18),
+        },
+        Case {
+            text: b"0: sync 18446744073709551616",
+            fault: (11, 3, 1, 9),
+        },
+        Case {
+            text: b"0: <M[1] == 0; M[1] := 5",
+            fault: (11, 3, 1, 25),
+        },
+        Case {
+            text: b"0: <M[1] := 0; M[1] := 5>",
+            fault: (11, 3, 1, 10),
+        },
+        Case {
+            text: b"0: M[1] == 0\n1: M[1 == 0",
+            fault: (11, 3, 2, 8),
+        },
     ];
 
     // Reads a text into a draft: the fault as the cases give it, or zeros.
@@ -82,10 +140,7 @@ mod tests {
     fn single_texts(rt: LibcRuntime) -> Result<(), Fail> {
         for case in &CASES {
             let mut draft = Draft::new(rt.alloc())?;
-            check_eq(
-                fault_of(&mut draft, case.0),
-                (case.1, case.2, case.3, case.4),
-            )?;
+            check_eq(fault_of(&mut draft, case.text), case.fault)?;
         }
         Ok(())
     }
@@ -185,6 +240,18 @@ mod tests {
         )?;
         let last = trace.instruction(63).ok_or("an instruction is missing")?;
         check_eq(fields_of(last), (3, 3, 0, 0, 0))
+    }
+
+    #[test]
+    fn faults_are_shown(rt: LibcRuntime) -> Result<(), Fail> {
+        let mut draft = Draft::new(rt.alloc())?;
+        match read(&mut draft, b"0: sync\n0: M[1] = 1") {
+            Ok(()) => Err(Fail::new("a lone equals sign was read")),
+            Err(fault) => {
+                let shown = format!(rt.alloc(), "{fault}")?;
+                check(shown.as_str() == "fault 11 layer 3 line 2 column 9")
+            }
+        }
     }
 
     #[test]

@@ -138,10 +138,7 @@ fn slot_of<T: PartialEq<T> + Copy>(items: &[T], brought: Option<T>) -> usize
     let Some(x) = brought else {
         return 0;
     };
-    match first_equal(items, &x) {
-        Some(i) => i,
-        None => items.len(),
-    }
+    first_equal(items, &x).unwrap_or(items.len())
 }
 
 // Puts what is brought, whose slot is given, at the end of `items`, unless it is there.
