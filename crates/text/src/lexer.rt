@@ -6,32 +6,25 @@ ghost use lib.ListN.{length, drop};
 ghost use Rattle.std.specs.Options.{Cases as BySome, mapped};
 ghost use Rattle.text.specs.Lines.{isEnd};
 ghost use Rattle.text.specs.Places.{SameLine, Starts, at, behind, firstLine, left, tok};
-ghost use Rattle.text.specs.Tokens.{digits, nextToken, on, past, skipped, spaces, symbolAt, symbolWidth, token, width};
+ghost use Rattle.text.specs.Tokens.{front, nextToken, on, past, skipped, symbolAt, symbolWidth, token, width};
+use crate::class::ByteClass;
+use crate::class::Digit;
+use crate::class::DigitClass;
+use crate::class::Space;
+use crate::class::SpaceClass;
 use crate::reader::Reader;
 use crate::token::Located;
 use crate::token::Symbol;
 use crate::token::Token;
 use traces::first_equal;
 
-// How many spaces `bytes` begins with.
-fn leading_spaces(bytes: &[u8]) -> usize
+// How many bytes of a class `bytes` begins with.
+fn leading<C: ByteClass>(bytes: &[u8]) -> usize
     ensures within { λ r. ⌜ r ≤ length (now (bytes .entry)) ⌝ }
-    ensures count { λ r. ⌜ r ≡ spaces (now (bytes .entry)) ⌝ }
+    ensures count { λ r. ⌜ r ≡ front (C·ByteClass .member) (now (bytes .entry)) ⌝ }
 {
     let mut n = 0;
-    while n < bytes.len() && bytes[n] == b' ' {
-        n += 1;
-    }
-    n
-}
-
-// How many digits `bytes` begins with.
-fn leading_digits(bytes: &[u8]) -> usize
-    ensures within { λ r. ⌜ r ≤ length (now (bytes .entry)) ⌝ }
-    ensures count { λ r. ⌜ r ≡ digits (now (bytes .entry)) ⌝ }
-{
-    let mut n = 0;
-    while n < bytes.len() && bytes[n].is_ascii_digit() {
+    while n < bytes.len() && C::has(bytes[n]) {
         n += 1;
     }
     n
@@ -67,7 +60,7 @@ fn token_at<'a>(bytes: &'a [u8]) -> (Token<'a>, usize)
     if bytes.is_empty() {
         return (Token::LineEnd, 0);
     }
-    let n = leading_digits(bytes);
+    let n = leading::<Digit>(bytes);
     if n > 0 {
         let (run, _) = bytes.split_at(n);
         return (Token::Digits(run), n);
@@ -144,7 +137,7 @@ impl<'a> Reader<'a> {
         ensures { λ r. ⌜ r ≡ isEnd (nextToken (at (now (self .entry)))) ⌝ }
     {
         let rest = &self.text[self.place..self.line_end];
-        leading_spaces(rest) == rest.len()
+        leading::<Space>(rest) == rest.len()
     }
 
     // The next token of the line, past the spaces before it.
@@ -155,7 +148,7 @@ impl<'a> Reader<'a> {
         ensures at { λ _. ⌜ at (now (self .exit)) ≡ past (at (now (self .entry))) ⌝ }
         ensures kept { λ _. ⌜ SameLine (now (self .entry)) (now (self .exit)) ⌝ }
     {
-        let spaces = leading_spaces(&self.text[self.place..self.line_end]);
+        let spaces = leading::<Space>(&self.text[self.place..self.line_end]);
         self.advance(spaces);
         let line = self.line;
         let column = self.column;

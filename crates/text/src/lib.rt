@@ -1,3 +1,4 @@
+mod class;
 mod codes;
 mod fault;
 mod lexer;

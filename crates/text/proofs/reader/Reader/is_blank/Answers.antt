@@ -8,4 +8,4 @@ use Rattle.text.proofs.reader.Reader.is_blank.Needs as need
 pub returns : need.returns
 returns c =
     let rest = at (c .args .self .now) .rest in
-    ap (λ n. eqb n (length rest)) (c .leading-spaces .ensures .count) ∙ blank-end rest
+    ap (λ n. eqb n (length rest)) (c .leading .ensures .count) ∙ blank-end rest
