@@ -15,15 +15,18 @@ decimal-ge n [] = omega arith
 decimal-ge n (d ∷ ds) = omega (arith, decimal-ge (n * 10 + (d - 48)) ds)
 
 module _ (ds : List ℕ) (n i : ℕ) (so-far : decimal n (drop i ds) ≡ decimal 0 ds) where
+  -- one digit more
   pub decimal-more : i < length ds → decimal (n * 10 + (getD ds i 0 - 48)) (drop (i + 1) ds) ≡ decimal 0 ds
   decimal-more l = sym (at-drop-more (decimal n) ds i 0 l) ∙ so-far
 
+  -- a number that is too large stays so
   pub decimal-large : i < length ds → 2 ^ 64 ≤ n * 10 + (getD ds i 0 - 48) → None ≡ valueOf ds
   decimal-large l big =
       let more = decimal-more l in
       let ge = decimal-ge (n * 10 + (getD ds i 0 - 48)) (drop (i + 1) ds) in
       sym (cond-false _ _ _ (le-ltb (decimal 0 ds) (2 ^ 64) (omega arith)))
 
+  -- no digit is left
   pub decimal-all : length ds ≤ i → n < 2 ^ 64 → Some n ≡ valueOf ds
   decimal-all l small =
       let e : n ≡ decimal 0 ds = sym (at-drop-all (decimal n) ds i l) ∙ so-far in

@@ -50,6 +50,7 @@ behind-shorter (b ∷ bs) h = omega (arith, shorter-step b bs (eqb b 10) (behind
 
 -- the lines of bs, the first of them the line n, make the whole of m
 module _ (n : ℕ) (m : List Instruction) (bs : List ℕ) (whole : Result (List Instruction) Fault) (so-far : linesRead n m (linesOf bs) ≡ whole) where
+  -- no line is left
   pub lines-none : length bs ≡ 0 → whole ≡ Ok m
   unfolding linesRead linesOf
   lines-none z = sym so-far ∙ ap (λ l. linesRead n m (linesOf l)) (nil-from-length bs z)
@@ -59,9 +60,11 @@ module _ (n : ℕ) (m : List Instruction) (bs : List ℕ) (whole : Result (List 
     unfolding linesRead
     first-read = sym (ap (linesRead n m) (lines-first bs some)) ∙ so-far
 
+    -- the first line is read, and the rest makes the whole
     pub lines-next : (k : List Instruction) → lineRead n m (firstLine bs) ≡ Ok k → linesRead (n + 1) k (linesOf (behindFirst bs)) ≡ whole
     lines-next k e = sym (ap (λ r. andThen r (λ k. linesRead (n + 1) k (linesOf (behindFirst bs)))) e) ∙ first-read
 
+    -- the fault of the first line is that of the whole
     pub lines-stop : (f : Fault) → lineRead n m (firstLine bs) ≡ Err f → whole ≡ Err f
     lines-stop f e = sym first-read ∙ ap (λ r. andThen r (λ k. linesRead (n + 1) k (linesOf (behindFirst bs)))) e
 
@@ -70,6 +73,7 @@ pub lines-renumber : (n k : ℕ) (m : List Instruction) (bs : List ℕ) → leng
 unfolding linesRead linesOf
 lines-renumber n k m bs z = ap (λ l. linesRead n m (linesOf l)) (nil-from-length bs z) ∙ sym (ap (λ l. linesRead k m (linesOf l)) (nil-from-length bs z))
 
+-- instructions begin with themselves
 pub grown-self : (m : List Instruction) → Grown m m
 grown-self m = take-all (length m) m (omega arith)
 

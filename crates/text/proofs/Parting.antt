@@ -27,12 +27,15 @@ module _ (form : List Part) (i : ℕ) (f : Fields) (a : At) (whole : Result (Fie
         ∙ sym (at-drop-more (λ ps. parts ps f a) form i p inside)
         ∙ so-far
 
+    -- the token fits, and the rest of the form gives the whole
     pub parts-more : (g : Fields) (b : At) → b ≡ past a → Ok g ≡ accepted (getD form i p) f c t → parts (drop (i + 1) form) g b ≡ whole
     parts-more g b e h = ap (parts (drop (i + 1) form) g) e ∙ ap (λ r. andThen (placed (skipped a) r) (λ x. parts (drop (i + 1) form) x (past a))) h ∙ next-part
 
+    -- the token does not fit, and the whole is that fault
     pub parts-stop : (e : Cause) → Err e ≡ accepted (getD form i p) f c t → whole ≡ Err (faultAt (skipped a) e)
     parts-stop e h = sym next-part ∙ ap (λ r. andThen (placed (skipped a) r) (λ x. parts (drop (i + 1) form) x (past a))) (sym h)
 
+  -- no part is left
   pub parts-all : length form ≤ i → whole ≡ Ok (f, a)
   unfolding parts
   parts-all l = sym so-far ∙ at-drop-all (λ ps. parts ps f a) form i l

@@ -17,6 +17,7 @@ use Rattle.text.proofs.Readings.{one-reading, readable-read}
 err-same : (f g : Fault) → _≡_ {A = Result (List Instruction) Fault} (Err f) (Err g) → f ≡ g
 err-same f g e = cc
 
+-- both answers follow from the calculation, which gives one
 pub definite : (before : List Instruction) (bs : List ℕ) → Definite before bs
 definite before bs = record {
   one-reading = one-reading bs;
@@ -25,8 +26,10 @@ definite before bs = record {
   never-both = λ x f h k. no-ok f x (sym (fault-found before bs f k) ∙ readable-read before bs x h);
 }
 
+-- a text that is too long
 pub text-long : (before : List Instruction) (bs : List ℕ) → 16384 < length bs → textRead before bs ≡ Err tooLong
 text-long before bs h = cond-true _ _ _ (lt-ltb 16384 (length bs) h)
 
+-- a text that is not too long is read line by line
 pub text-short : (before : List Instruction) (bs : List ℕ) → length bs ≤ 16384 → textRead before bs ≡ linesRead 1 before (linesOf bs)
 text-short before bs h = cond-false _ _ _ (le-ltb 16384 (length bs) h)

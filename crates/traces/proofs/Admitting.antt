@@ -121,11 +121,13 @@ module _ (ts : List ℕ) (ds : List Address) (es : List Entry) (t : ℕ) (k : Ki
   abbrev pub moreEntries : List Entry
   moreEntries = es ++ newEntry ts ds t k a r w ∷ []
 
+  -- the new entry stands for the new instruction
   pub entry-states : statedBy moreThreads moreAddresses (newEntry ts ds t k a r w) ≡ new
   entry-states =
       ap (λ n. record { thread = n; kind = k; address = cond (addressed k) (getD moreAddresses (slotIn sameAddress ds (addressIn new)) (address 0)) (address 0); read = new .read; written = new .written }) (getD-brought eqb same-numbers ts t 0)
       ∙ ap (λ x. record { thread = t; kind = k; address = x; read = new .read; written = new .written }) (address-stated (addressed k) a ds)
 
+  -- the new entry has 0 in the fields that its kind lacks
   pub entry-plain : cleared (newEntry ts ds t k a r w) ≡ newEntry ts ds t k a r w
   entry-plain =
       ap (λ x. record { thread = slot eqb ts t; kind = k; address = x; read = cond (reads k) (cond (reads k) r 0) 0; written = cond (writes k) (cond (writes k) w 0) 0 }) (address-plain (addressed k) a ds)
@@ -135,11 +137,13 @@ module _ (ts : List ℕ) (ds : List Address) (es : List Entry) (t : ℕ) (k : Ki
   pub plain-more : map cleared es ≡ es → map cleared moreEntries ≡ moreEntries
   plain-more h = map-append cleared es _ ∙ ap (λ l. l ++ cleared (newEntry ts ds t k a r w) ∷ []) h ∙ ap (λ e. es ++ e ∷ []) entry-plain
 
+  -- each entry, the new one too, has the slot of a listed thread number
   pub threads-named-more : ThreadsNamed (length ts) es → ThreadsNamed (length moreThreads) moreEntries
   threads-named-more h =
       let l = length-listed eqb ts t in
       each-push (λ e. e .thread < length moreThreads) es (newEntry ts ds t k a r w) (λ n d b. omega (arith, h n d b)) (slot-inside eqb ts t)
 
+  -- the same of addresses
   pub addresses-named-more : length ds ≤ length moreAddresses → AddressesNamed (length ds) es → AddressesNamed (length moreAddresses) moreEntries
   addresses-named-more le h =
       each-push (λ e. addressed (e .kind) ≡ true → e .address < length moreAddresses) es (newEntry ts ds t k a r w) (λ n d b y. omega (arith, h n d b y)) (address-inside (addressed k) a ds)
@@ -152,12 +156,15 @@ module _ (ts : List ℕ) (ds : List Address) (es : List Entry) (t : ℕ) (k : Ki
       ∙ ap (λ i. before ++ i ∷ []) entry-states
 
   module _ (appear-t : ts ≡ threadsOf before) (appear-d : ds ≡ addressesOf before) where
+    -- the thread numbers by first appearance, with the new instruction
     pub threads-more : threadsOf (before ++ new ∷ []) ≡ moreThreads
     threads-more = appearing-push eqb threadIn [] before new ∙ ap (λ l. listed eqb l t) (sym appear-t)
 
+    -- the same of addresses
     pub addresses-more : addressesOf (before ++ new ∷ []) ≡ moreAddresses
     addresses-more = appearing-push sameAddress addressIn [] before new ∙ ap (λ l. joined sameAddress l (addressIn new)) (sym appear-d)
 
+    -- a draft that is full refuses
     pub refused-entries : 64 ≤ length es → admitted before new ≡ Err TooManyEntries
     refused-entries h = cond-true _ _ _ (le-leb 64 (length before) (omega (arith, length-map es (statedBy ts ds))))
 
@@ -165,6 +172,7 @@ module _ (ts : List ℕ) (ds : List Address) (es : List Entry) (t : ℕ) (k : Ki
       some-left : leb 64 (length before) ≡ false
       some-left = lt-leb 64 (length before) (omega (arith, length-map es (statedBy ts ds)))
 
+      -- a thread number without a free slot is refused
       pub refused-thread : 8 ≤ slot eqb ts t → admitted before new ≡ Err TooManyThreads
       refused-thread h = cond-false _ _ _ some-left ∙ cond-true _ _ _ (lt-ltb 8 (length (threadsOf (before ++ new ∷ []))) (omega (arith, ap length threads-more, length-listed eqb ts t)))
 
@@ -172,11 +180,13 @@ module _ (ts : List ℕ) (ds : List Address) (es : List Entry) (t : ℕ) (k : Ki
         threads-left : ltb 8 (length (threadsOf (before ++ new ∷ []))) ≡ false
         threads-left = le-ltb 8 (length (threadsOf (before ++ new ∷ []))) (omega (arith, ap length threads-more, length-listed eqb ts t))
 
+        -- an address without a free slot is refused
         pub refused-address : 16 ≤ slotIn sameAddress ds (addressIn new) → admitted before new ≡ Err TooManyAddresses
         refused-address h =
             let over = length-joined-over sameAddress ds (addressIn new) 16 (omega arith) h in
             cond-false _ _ _ some-left ∙ cond-false _ _ _ threads-left ∙ cond-true _ _ _ (lt-ltb 16 (length (addressesOf (before ++ new ∷ []))) (omega (arith, ap length addresses-more)))
 
+        -- else the instruction is added
         pub accepted-all : length ds ≤ 16 → slotIn sameAddress ds (addressIn new) < 16 → admitted before new ≡ Ok (before ++ new ∷ [])
         accepted-all few-d slot-d =
             let within = length-joined sameAddress ds (addressIn new) 16 few-d slot-d in

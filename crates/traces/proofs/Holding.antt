@@ -119,6 +119,7 @@ module _ (ts : List ℕ) (ds : List Address) (es : List Entry) (h : Held ts ds e
         stated-same fewerThreads fewerAddresses ts ds (take n es) (λ k d l. (getD-take (reach threadReach (take n es)) ts _ 0 (kept-t k d l), λ y. getD-take (reach addressReach (take n es)) ds _ (address 0) (kept-d k d l y)))
         ∙ sym (take-map (statedBy ts ds) n es)
 
+    -- what is true stays true where entries are taken away
     pub held-fewer : Held fewerThreads fewerAddresses (take n es)
     held-fewer = record {
       distinct-t = subst (Distinct 0) (sym (threads-kept .1)) (distinct-appearing eqb same-numbers threadIn 0 [] (take n (stated ts ds es)) (λ i j l. absurd (omega (arith, l .1))));

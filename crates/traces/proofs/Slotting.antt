@@ -20,6 +20,7 @@ pub record Sameness {X : Type 0} (same : X → X → Bool) : Type 0 where
   pub faithful : (x y : X) → same x y ≡ true → x ≡ y
 
 module _ {X : Type 0} (same : X → X → Bool) where
+  -- a slot is a place of the list or the next free one
   pub slot-le : (xs : List X) (x : X) → slot same xs x ≤ length xs
   slot-le [] x = omega arith
   slot-le (y ∷ ys) x = let h = slot-le ys x in elim (same y x) as (λ b. cond b 0 (suc (slot same ys x)) ≤ suc (length ys)) [ true ↦ omega arith | false ↦ omega arith ]
@@ -93,6 +94,7 @@ module _ {X : Type 0} (same : X → X → Bool) where
         ∙ take-at (appearing same brings xs (take n ys)) (front .0) _ refl
 
   module _ (law : Sameness same) where
+    -- a new element comes at the end
     pub slot-new : (xs : List X) (x : X) → length xs ≤ slot same xs x → slot same (xs ++ x ∷ []) x ≡ length xs
     slot-new [] x h = cond-true _ _ _ (law .reflexive x)
     slot-new (z ∷ zs) x h = new-step (same z x) (slot same zs x) (slot same (zs ++ x ∷ []) x) (length zs) (slot-new zs x) h
@@ -110,10 +112,12 @@ module _ {X : Type 0} (same : X → X → Bool) where
     at-step true y x d s ys e f h = e refl
     at-step false y x d s ys e f h = f (omega arith)
 
+    -- an element that is there is at its slot
     pub getD-slot : (xs : List X) (x d : X) → slot same xs x < length xs → getD xs (slot same xs x) d ≡ x
     getD-slot [] x d h = absurd (omega arith)
     getD-slot (y ∷ ys) x d h = at-step (same y x) y x d (slot same ys x) ys (law .faithful y x) (getD-slot ys x d) h
 
+    -- the slot is the first place of the element
     pub slot-found : (xs : List X) (x d : X) (i : ℕ) → i < length xs → getD xs i d ≡ x → ((k : ℕ) → k < i → getD xs k d ≡ x → ⊥) → slot same xs x ≡ i
     slot-found [] x d i h e b = absurd (omega arith)
     slot-found (y ∷ ys) x d zero h e b = cond-true _ _ _ (ap (λ z. same z x) e ∙ law .reflexive x)
@@ -125,6 +129,7 @@ module _ {X : Type 0} (same : X → X → Bool) where
     pub slot-own : (d : X) (xs : List X) → Distinct d xs → (i : ℕ) → i < length xs → slot same xs (getD xs i d) ≡ i
     slot-own d xs distinct i h = slot-found xs (getD xs i d) d i h refl (λ k l e. distinct k i (l, h) e)
 
+    -- elements still differ when a new one comes
     pub distinct-push : (d : X) (xs : List X) (x : X) → Distinct d xs → length xs ≤ slot same xs x → Distinct d (xs ++ x ∷ [])
     distinct-push d xs x distinct new i j h e =
         let small : i < length xs = omega (arith, h .0, h .1, length-push xs x) in
@@ -148,6 +153,7 @@ module _ {X : Type 0} (same : X → X → Bool) where
     distinct-joined d xs None distinct = distinct
     distinct-joined d xs (Some x) distinct = distinct-listed d xs x distinct
 
+    -- elements that are listed by first appearance differ
     pub distinct-appearing : {Y : Type 0} (brings : Y → Option X) (d : X) (xs : List X) (ys : List Y) → Distinct d xs → Distinct d (appearing same brings xs ys)
     distinct-appearing brings d xs [] distinct = distinct
     distinct-appearing brings d xs (y ∷ ys) distinct = distinct-appearing brings d (joined same xs (brings y)) ys (distinct-joined d xs (brings y) distinct)

@@ -25,9 +25,11 @@ use Rattle.traces.specs.Slots.{slot, listed, joined, appearing, Distinct}
 use Rattle.traces.specs.Stated.{statedBy, stated, entryOf, ThreadsNamed, AddressesNamed, cleared, reach}
 use Rattle.traces.proofs.Slotting.{Sameness, slot-own, slot-appearing, length-listed}
 
+-- numbers are compared rightly
 pub same-numbers : Sameness eqb
 same-numbers = record { reflexive = λ x. eq-eqb x x refl; faithful = λ x y. eqb-true x y }
 
+-- addresses are compared rightly
 pub same-addresses : Sameness sameAddress
 same-addresses = record { reflexive = λ x. eq-eqb (x .number) (x .number) refl; faithful = λ x y e. ap address (eqb-true (x .number) (y .number) e) }
 
@@ -54,6 +56,7 @@ address-agree : (b : Bool) (x y : Address) → (b ≡ true → x ≡ y) → cond
 address-agree true x y h = h refl
 address-agree false x y h = refl
 
+-- tables that agree for each entry give the same instructions
 pub stated-same : (ts : List ℕ) (ds : List Address) (us : List ℕ) (fs : List Address) (es : List Entry) → ((k : ℕ) (d : Entry) → k < length es → Agree ts ds us fs (getD es k d)) → stated ts ds es ≡ stated us fs es
 stated-same ts ds us fs [] h = refl
 stated-same ts ds us fs (e ∷ es) h =
@@ -76,6 +79,7 @@ entry-again ts ds e dt dd lt la plain =
 head-of : {X : Type 0} (d x y : X) (xs ys : List X) → _≡_ {A = List X} (x ∷ xs) (y ∷ ys) → (x ≡ y) × (xs ≡ ys)
 head-of d x y xs ys e = (ap (λ l. getD l 0 d) e, ap (drop 1) e)
 
+-- entries are told again from their instructions
 pub entries-again : (ts : List ℕ) (ds : List Address) (es : List Entry) → Distinct 0 ts → Distinct (address 0) ds → ThreadsNamed (length ts) es → AddressesNamed (length ds) es → map cleared es ≡ es → map (entryOf ts ds) (stated ts ds es) ≡ es
 entries-again ts ds [] dt dd nt nd plain = refl
 entries-again ts ds (e ∷ es) dt dd nt nd plain =
@@ -89,6 +93,7 @@ module _ {X : Type 0} (same : X → X → Bool) (law : Sameness same) (brings : 
   abbrev pub Needs : Entry → Type 0
   Needs e = ((brings (f e) ≡ None) × (of e ≡ 0)) ⊎ ((x : X) × (brings (f e) ≡ Some x) × (of e ≡ slot same whole x + 1))
 
+  -- the first n entries need as many elements as they bring
   pub reach-appearing : (xs : List X) (es : List Entry) → appearing same brings xs (map f es) ≡ whole → ((k : ℕ) (d : Entry) → k < length es → Needs (getD es k d)) → (n : ℕ) → length (appearing same brings xs (take n (map f es))) ≡ max (length xs) (reach of (take n es))
   reach-appearing xs es w h zero = omega arith
   reach-appearing xs [] w h (suc n) = omega arith
