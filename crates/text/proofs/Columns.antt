@@ -5,10 +5,10 @@ use Prim.Native.Nat.{ℕ, _+_}
 use native.Mathlib.Omega.{arith}
 use lib.Dec.{eqb}
 use lib.ListN.{length, length-append}
+use Rattle.std.proofs.shelf.Sums.{leading-le-length}
 use Rattle.std.proofs.shelf.Lists.{length-drop}
 use Rattle.text.specs.Tokens.{At, skipped, spaces, width}
 use Rattle.text.specs.Grammar.{Begins, Tok}
-use Rattle.text.proofs.Fronts.{front-le}
 use Rattle.text.proofs.Longest.{spells-width}
 
 -- bytes that begin with a token are as long as the token and what follows
@@ -17,4 +17,4 @@ begins-length bs t rest b = ap length (b .whole) ∙ length-append (b .spelled) 
 
 -- skipping spaces moves the column by as much as the rest gets shorter
 pub skipped-column : (a : At) → skipped a .column + length (skipped a .rest) ≡ a .column + length (a .rest)
-skipped-column a = omega (arith, length-drop (spaces (a .rest)) (a .rest), front-le (λ b. eqb b 32) (a .rest))
+skipped-column a = omega (arith, length-drop (spaces (a .rest)) (a .rest), leading-le-length (λ b. eqb b 32) (a .rest))

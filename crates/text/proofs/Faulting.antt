@@ -23,7 +23,7 @@ use Rattle.text.specs.declared.fault.Cause.{Cause}
 use Rattle.text.specs.declared.fault.Cause.the-variants.{Misfit, TooLarge, OtherAddress}
 use Rattle.text.specs.declared.fault.Fault.{Fault}
 use Rattle.text.specs.Tokens.{At, skipped, nextToken, past}
-use Rattle.text.specs.Grammar.{Writes, States, decimal, Tok, number, fixed, ends, unknown}
+use Rattle.text.specs.Grammar.{Writes, States, denoted, Tok, number, fixed, ends, unknown}
 use Rattle.text.specs.Lines.{accepted, accessed, body, cellParts, faultAt, isEnd, isSymbol, loadParts, noFields, numberIn, orTooLarge, parts, placed, put, someStatement, startOf, statement, storeParts, swapParts, syncParts, threadParts, lineFrom}
 use Rattle.traces.specs.Adding.{andThen}
 use Rattle.text.specs.Faults.{NumberFits, LineFault, too-large, other-address}
@@ -146,7 +146,7 @@ module _ (bs : List ℕ) (n : ℕ) where
 
   module _ {X : Type 0} (w : Want) (p : Fields → ℕ → ℕ → Result Fields Cause) (k : Fields → At → Result X Fault) (only-numbers : Numeric w)
       (goes-on : (f : Fields) (a : At) → Reached bs n w f a → (ds : List ℕ) → nextToken a ≡ number ds → Small ds → (e : Fault) →
-      andThen (placed (skipped a) (p f (skipped a .column) (decimal 0 ds))) (λ g. k g (past a)) ≡ Err e → Refused e) where
+      andThen (placed (skipped a) (p f (skipped a .column) (denoted 0 ds))) (λ g. k g (past a)) ≡ Err e → Refused e) where
     -- at a number, where it is known how one of 64 bits goes on
     faults-number : Faults w (numbering p k)
     faults-number f a r e = go (nextToken a) refl
@@ -154,22 +154,22 @@ module _ (bs : List ℕ) (n : ℕ) where
         wrong : (t : Tok) → nextToken a ≡ t → (NumberFirst (t ∷ []) → ⊥) → LineFault bs Misfit (skipped a .column)
         wrong t q z = misfits r (λ ts l h. z (like-number t ts (subst (λ u. Like u ts) q l) (only-numbers (r .written) ts h)))
 
-        sized : (ds : List ℕ) → nextToken a ≡ number ds → (b : Bool) → ltb (decimal 0 ds) (2 ^ 64) ≡ b →
-            andThen (placed (skipped a) (andThen (orTooLarge (cond b (Some (decimal 0 ds)) None)) (p f (skipped a .column)))) (λ g. k g (past a)) ≡ Err e → Refused e
-        sized ds q true l h = goes-on f a r ds q (token-digits (skipped a .rest) ds q, refl, ltb-true (decimal 0 ds) (2 ^ 64) l) e h
+        sized : (ds : List ℕ) → nextToken a ≡ number ds → (b : Bool) → ltb (denoted 0 ds) (2 ^ 64) ≡ b →
+            andThen (placed (skipped a) (andThen (orTooLarge (cond b (Some (denoted 0 ds)) None)) (p f (skipped a .column)))) (λ g. k g (past a)) ≡ Err e → Refused e
+        sized ds q true l h = goes-on f a r ds q (token-digits (skipped a .rest) ds q, refl, ltb-true (denoted 0 ds) (2 ^ 64) l) e h
         sized ds q false l h =
             refused-at a TooLarge (r .line-is)
-            (too-large (r .before) (skipped a .rest) (skipped a .column) (leads-here r) (column-here r) (number-fits w f a r only-numbers) ds (past a .rest) (token-number (skipped a .rest) ds q) (ltb-false (decimal 0 ds) (2 ^ 64) l)) e h
+            (too-large (r .before) (skipped a .rest) (skipped a .column) (leads-here r) (column-here r) (number-fits w f a r only-numbers) ds (past a .rest) (token-number (skipped a .rest) ds q) (ltb-false (denoted 0 ds) (2 ^ 64) l)) e h
 
         go : (t : Tok) → nextToken a ≡ t → andThen (placed (skipped a) (andThen (numberIn t) (p f (skipped a .column)))) (λ g. k g (past a)) ≡ Err e → Refused e
-        go (number ds) q h = sized ds q (ltb (decimal 0 ds) (2 ^ 64)) refl h
+        go (number ds) q h = sized ds q (ltb (denoted 0 ds) (2 ^ 64)) refl h
         go (fixed s) q h = refused-at a Misfit (r .line-is) (wrong (fixed s) q (λ z. z)) e h
         go ends q h = refused-at a Misfit (r .line-is) (wrong ends q (λ z. z)) e h
         go unknown q h = refused-at a Misfit (r .line-is) (wrong unknown q (λ z. z)) e h
 
   -- past a number that stands where v wants one
   past-number : {X : Type 0} (v w : Want) (k : Fields → At → Result X Fault) → Faults w k → (f g : Fields) (a : At) (r : Reached bs n v f a) (ds ad : List ℕ) → nextToken a ≡ number ds →
-      Small ad → g .address .number ≡ decimal 0 ad → ((ts : List Tok) → Follows w ad ts → Follows v (r .written) (number ds ∷ ts)) → ((ts : List Tok) → Follows v (r .written) (number ds ∷ ts) → Follows w ad ts) →
+      Small ad → g .address .number ≡ denoted 0 ad → ((ts : List Tok) → Follows w ad ts → Follows v (r .written) (number ds ∷ ts)) → ((ts : List Tok) → Follows v (r .written) (number ds ∷ ts) → Follows w ad ts) →
       (e : Fault) → k g (past a) ≡ Err e → Refused e
   past-number v w k behind f g a r ds ad q l i out back e h = behind g (past a) (passed r (number ds) q (token-number (skipped a .rest) ds q) w g ad l i out back) e h
 
@@ -178,7 +178,7 @@ module _ (bs : List ℕ) (n : ℕ) where
     faults-any : (p : Fields → ℕ → ℕ → Result Fields Cause) → ((f : Fields) (c m : ℕ) → (g : Fields) × (p f c m ≡ Ok g) × (g .address .number ≡ f .address .number)) → Faults (any w) (numbering p k)
     faults-any p leaves =
         faults-number (any w) p k (any-numeric w) (λ f a r ds q l e h.
-        let y = leaves f (skipped a .column) (decimal 0 ds) in
+        let y = leaves f (skipped a .column) (denoted 0 ds) in
         past-number (any w) w k behind f (y .0) a r ds (r .written) q (r .small) (y .2 ∙ r .address-is) (λ ts u. any-number l u) (λ ts. behind-any) e
         (sym (ap (λ x. andThen (placed (skipped a) x) (λ g. k g (past a))) (y .1)) ∙ h))
 
@@ -194,16 +194,16 @@ module _ (bs : List ℕ) (n : ℕ) where
         faults-number (same w) (put SameAddress) k (same-numeric w) again
       where
         again : (f : Fields) (a : At) (r : Reached bs n (same w) f a) (ds : List ℕ) → nextToken a ≡ number ds → Small ds → (e : Fault) →
-            andThen (placed (skipped a) (put SameAddress f (skipped a .column) (decimal 0 ds))) (λ g. k g (past a)) ≡ Err e → Refused e
-        again f a r ds q l e = go (eqb (decimal 0 ds) (f .address .number)) refl
+            andThen (placed (skipped a) (put SameAddress f (skipped a .column) (denoted 0 ds))) (λ g. k g (past a)) ≡ Err e → Refused e
+        again f a r ds q l e = go (eqb (denoted 0 ds) (f .address .number)) refl
           where
-            go : (b : Bool) → eqb (decimal 0 ds) (f .address .number) ≡ b → andThen (placed (skipped a) (cond b (Ok f) (Err OtherAddress))) (λ g. k g (past a)) ≡ Err e → Refused e
-            go true t h = past-number (same w) w k behind f f a r ds (r .written) q (r .small) (r .address-is) (λ ts u. same-number (subst (Writes ds) (eqb-true (decimal 0 ds) (f .address .number) t ∙ r .address-is) l) u) (λ ts u. behind-same u .1) e h
+            go : (b : Bool) → eqb (denoted 0 ds) (f .address .number) ≡ b → andThen (placed (skipped a) (cond b (Ok f) (Err OtherAddress))) (λ g. k g (past a)) ≡ Err e → Refused e
+            go true t h = past-number (same w) w k behind f f a r ds (r .written) q (r .small) (r .address-is) (λ ts u. same-number (subst (Writes ds) (eqb-true (denoted 0 ds) (f .address .number) t ∙ r .address-is) l) u) (λ ts u. behind-same u .1) e h
             go false t h =
                 refused-at a OtherAddress (r .line-is)
                 (other-address (r .before) (skipped a .rest) (skipped a .column) (leads-here r) (column-here r) (number-fits (same w) f a r (same-numeric w)) ds (past a .rest) (token-number (skipped a .rest) ds q) (l .2) (λ v.
                 let y = one-wanted r (number ds) (λ ts. subst (λ u. Like u (number ds ∷ ts)) (sym q) numbers) v in
-                eqb-false (decimal 0 ds) (f .address .number) t (behind-same (y .1) .0 .1 ∙ sym (r .address-is)))) e h
+                eqb-false (denoted 0 ds) (f .address .number) t (behind-same (y .1) .0 .1 ∙ sym (r .address-is)))) e h
 
     -- a symbol that is wanted is tested for
     by-test : (b : Bool) (f : Fields) (a : At) → cond b (k f (past a)) (Err (faultAt (skipped a) Misfit)) ≡ andThen (placed (skipped a) (cond b (Ok f) (Err Misfit))) (λ g. k g (past a))

@@ -20,7 +20,7 @@ use Rattle.text.specs.declared.statement.Fields.{Fields}
 use Rattle.text.specs.declared.fault.Cause.{Cause}
 use Rattle.text.specs.declared.fault.Cause.the-variants.{Misfit, OtherAddress}
 use Rattle.text.specs.Tokens.{token, At, skipped, nextToken, past}
-use Rattle.text.specs.Grammar.{Spells, Tokens, Writes, decimal, Tok, number, fixed, ends, unknown}
+use Rattle.text.specs.Grammar.{Spells, Tokens, Writes, denoted, Tok, number, fixed, ends, unknown}
 use Rattle.text.specs.Lines.{orTooLarge, numberIn, code, isSymbol, isEnd, put, accepted, placed, parts}
 use Rattle.traces.specs.Adding.{andThen}
 use Rattle.text.proofs.Gaps.{beyond-end, tokens-end, tokens-nil, tokens-more, tokens-next, tokens-none}
@@ -92,11 +92,11 @@ parts-next p ps f g a h = ap (λ r. andThen (placed (skipped a) r) (λ g. parts 
 
 -- digits that write a number give it
 writes-in : (ds : List ℕ) (n : ℕ) → Writes ds n → numberIn (number ds) ≡ Ok n
-writes-in ds n w = ap orTooLarge (cond-true _ _ _ (lt-ltb (decimal 0 ds) (2 ^ 64) (omega arith))) ∙ ap Ok (w .1)
+writes-in ds n w = ap orTooLarge (cond-true _ _ _ (lt-ltb (denoted 0 ds) (2 ^ 64) (omega arith))) ∙ ap Ok (w .1)
 
 -- a number that is given is written by its digits, by whether it has 64 bits
-value-writes : (ds : List ℕ) (b : Bool) (n : ℕ) → Spells ds (number ds) → ltb (decimal 0 ds) (2 ^ 64) ≡ b → orTooLarge (cond b (Some (decimal 0 ds)) None) ≡ Ok n → Writes ds n
-value-writes ds true n s e h = let k : decimal 0 ds ≡ n = cc in (s, k, subst (λ m. m < 2 ^ 64) k (ltb-true (decimal 0 ds) (2 ^ 64) e))
+value-writes : (ds : List ℕ) (b : Bool) (n : ℕ) → Spells ds (number ds) → ltb (denoted 0 ds) (2 ^ 64) ≡ b → orTooLarge (cond b (Some (denoted 0 ds)) None) ≡ Ok n → Writes ds n
+value-writes ds true n s e h = let k : denoted 0 ds ≡ n = cc in (s, k, subst (λ m. m < 2 ^ 64) k (ltb-true (denoted 0 ds) (2 ^ 64) e))
 value-writes ds false n s e h = absurd (no-ok _ n h)
 
 -- a number that is given is written by the digits of the token that is read
@@ -104,7 +104,7 @@ pub in-writes : (bs : List ℕ) (n : ℕ) → numberIn (token bs) ≡ Ok n → (
 in-writes bs n = go (token bs) refl
   where
     go : (t : Tok) → token bs ≡ t → numberIn t ≡ Ok n → (ds : List ℕ) × (token bs ≡ number ds) × Writes ds n
-    go (number ds) e h = (ds, e, value-writes ds (ltb (decimal 0 ds) (2 ^ 64)) n (token-digits bs ds e) refl h)
+    go (number ds) e h = (ds, e, value-writes ds (ltb (denoted 0 ds) (2 ^ 64)) n (token-digits bs ds e) refl h)
     go (fixed s) e h = absurd (no-ok _ n h)
     go ends e h = absurd (no-ok _ n h)
     go unknown e h = absurd (no-ok _ n h)

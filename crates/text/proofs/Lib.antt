@@ -1,5 +1,4 @@
 pub mod Columns
-pub mod Counting
 pub mod Decimals
 pub mod Faulting
 pub mod Finding

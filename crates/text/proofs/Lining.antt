@@ -12,7 +12,6 @@ use Rattle.std.specs.declared.result.Result.{Result}
 use Rattle.std.specs.declared.result.Result.the-variants.{Ok, Err}
 use Rattle.std.proofs.shelf.Lists.{length-take, take-all, take-append-le, nil-from-length}
 use Rattle.traces.specs.declared.entry.Instruction.{Instruction}
-use Rattle.traces.specs.declared.entry.Refusal.{Refusal}
 use Rattle.traces.specs.declared.entry.Refusal.the-variants.{TooManyEntries, TooManyThreads, TooManyAddresses}
 use Rattle.traces.specs.Adding.{admitted, threadsOf, addressesOf, andThen}
 use Rattle.text.specs.declared.statement.Statement.{Statement}
@@ -20,7 +19,8 @@ use Rattle.text.specs.declared.fault.Fault.{Fault}
 use Rattle.text.specs.Lines.{instructionOf, lineFrom}
 use Rattle.text.specs.Places.{firstLine, behindFirst}
 use Rattle.text.specs.Tokens.{At}
-use Rattle.text.specs.Texts.{Grown, entered, intoFirst, lineRead, lineReadFrom, linesOf, linesRead, placedIn}
+use Rattle.text.specs.Texts.{Grown, entered, intoFirst, lineRead, lineReadFrom, linesOf, linesRead}
+use Rattle.text.proofs.Readings.{placed-ok}
 use Rattle.text.proofs.Fits.{no-ok, ok-same, then-ok}
 
 first-step : (b : ℕ) (bs : List ℕ) (t : Bool) → (0 < length bs → linesOf bs ≡ firstLine bs ∷ linesOf (behindFirst bs)) → cond t ([] ∷ linesOf bs) (intoFirst b (linesOf bs)) ≡ cond t [] (b ∷ firstLine bs) ∷ linesOf (cond t bs (behindFirst bs))
@@ -92,14 +92,10 @@ admitted-at false false false is js e = sym (ok-same is js e)
 pub admitted-last : (is : List Instruction) (i : Instruction) (js : List Instruction) → admitted is i ≡ Ok js → js ≡ is ++ i ∷ []
 admitted-last is i js e = admitted-at (leb 64 (length is)) (ltb 8 (length (threadsOf (is ++ i ∷ [])))) (ltb 16 (length (addressesOf (is ++ i ∷ [])))) (is ++ i ∷ []) js e
 
-placed-last : (n : ℕ) (s : Statement) (r : Result (List Instruction) Refusal) (js : List Instruction) → placedIn n s r ≡ Ok js → r ≡ Ok js
-placed-last n s (Ok is) js e = ap Ok (ok-same is js e)
-placed-last n s (Err f) js e = absurd (no-ok _ js e)
-
 grown-entered : (m n : List Instruction) → Grown m n → (l : ℕ) (o : Option Statement) (k : List Instruction) → entered l n o ≡ Ok k → Grown m k
 grown-entered m n h l None k e = subst (Grown m) (ok-same n k e) h
 grown-entered m n h l (Some s) k e =
-    subst (Grown m) (sym (admitted-last n (instructionOf s) k (placed-last l s (admitted n (instructionOf s)) k e))) (grown-more m n (instructionOf s ∷ []) h)
+    subst (Grown m) (sym (admitted-last n (instructionOf s) k (placed-ok l s (admitted n (instructionOf s)) k e))) (grown-more m n (instructionOf s ∷ []) h)
 
 -- what stands in front stays as a line is read
 pub grown-line : (m n : List Instruction) → Grown m n → (a : At) (k : List Instruction) → lineReadFrom a n ≡ Ok k → Grown m k

@@ -9,18 +9,19 @@ use lib.ListN.{length, take, drop}
 use Rattle.std.specs.Text.{asciiDigit}
 use Rattle.std.specs.declared.option.Option.{Option}
 use Rattle.std.specs.declared.option.Option.the-variants.{Some, None}
+use Rattle.std.proofs.shelf.Sums.{leading-le-length}
 use Rattle.std.proofs.shelf.Lists.{append-nil, take-at, take-all, drop-at, length-take-le, take-append-drop, nil-from-length}
 use Rattle.std.proofs.shelf.Tests.{cond-true, cond-false, cond-both, lt-ltb, ne-eqb, eqb-true, eqb-false, ltb-true}
 use Rattle.text.specs.declared.token.Symbol.{Symbol}
 use Rattle.text.specs.declared.token.Symbol.the-variants.{Colon, Assign, Equals, Memory, Open, Close, Less, Greater, Semicolon, Sync}
 use Rattle.text.specs.Tokens.{token, width, symbolWidth, symbolAt, orUnknown, has, digits}
 use Rattle.text.specs.Grammar.{spelling, Spells, a-number, a-symbol, Begins, Tok, number, fixed, ends, unknown}
-use Rattle.text.proofs.Fronts.{front-le, front-behind, front-passes}
+use Rattle.text.proofs.Fronts.{front-behind, front-passes}
 
 -- bytes that begin with digits are read as a number
 token-run : (bs : List ℕ) → 0 < digits bs → token bs ≡ number (take (digits bs) bs)
 token-run bs l =
-    cond-false _ _ _ (ne-eqb (length bs) 0 (λ z. absurd (omega (arith, front-le asciiDigit bs))))
+    cond-false _ _ _ (ne-eqb (length bs) 0 (λ z. absurd (omega (arith, leading-le-length asciiDigit bs))))
     ∙ cond-true _ _ _ (lt-ltb 0 (digits bs) l)
 
 -- bytes that begin with no digit are read as a symbol, or as unknown
@@ -68,7 +69,7 @@ token-least : (w : List ℕ) (t : Tok) (rest : List ℕ) → Spells w t → leng
 token-least w t rest (a-number some all) =
     let bs : List ℕ = w ++ rest in
     let n = front-behind asciiDigit w rest all in
-    let m = length-take-le (digits bs) bs (front-le asciiDigit bs) in
+    let m = length-take-le (digits bs) bs (leading-le-length asciiDigit bs) in
     let e = ap width (token-run bs (omega arith)) in
     omega arith
 token-least w t rest (a-symbol {s = s}) = symbol-least s rest
@@ -142,7 +143,7 @@ found-symbol bs None l h = l
 -- the same of what is read as a number
 found-number : (bs : List ℕ) → 0 < digits bs → Found bs (number (take (digits bs) bs))
 found-number bs l =
-    let n : length (take (digits bs) bs) ≡ digits bs = length-take-le (digits bs) bs (front-le asciiDigit bs) in
+    let n : length (take (digits bs) bs) ≡ digits bs = length-take-le (digits bs) bs (leading-le-length asciiDigit bs) in
     (a-number (omega arith) (front-passes asciiDigit bs), sym (take-append-drop (digits bs) bs) ∙ ap (λ k. take (digits bs) bs ++ drop k bs) (sym n))
 
 -- the token that is read is spelled there

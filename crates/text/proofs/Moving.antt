@@ -11,6 +11,7 @@ use lib.ListN.{length, getD, take, drop}
 use Rattle.std.specs.Orderings.{Decides}
 use Rattle.std.specs.declared.option.Option.{Option}
 use Rattle.std.specs.declared.option.Option.the-variants.{Some, None}
+use Rattle.std.proofs.shelf.Sums.{leading-le-length}
 use Rattle.std.proofs.shelf.Lists.{drop-drop, drop-all, drop-take, length-drop, take-rest}
 use Rattle.std.proofs.shelf.Tests.{cond-true, cond-false, cases-bool, cases-eq, cases-lt, eq-eqb, ne-eqb, le-leb, lt-leb, both-ways}
 use Rattle.traces.specs.First.{First}
@@ -19,7 +20,6 @@ use Rattle.text.specs.Lines.{isEnd}
 use Rattle.text.specs.Places.{firstLine, behindFirst}
 use Rattle.text.specs.Tokens.{orUnknown, token, digits, spaces, symbolAt}
 use Rattle.text.specs.Grammar.{number}
-use Rattle.text.proofs.Fronts.{front-le}
 
 -- the first line feed ends the first line
 pub line-found : (bs : List ℕ) (i : ℕ) → i < length bs → getD bs i 0 ≡ 10 → ((k : ℕ) → k < i → getD bs k 0 ≡ 10 → ⊥) → length (firstLine bs) ≡ i
@@ -128,7 +128,7 @@ end-none bs =
 -- a line is blank where it has as many spaces in front as bytes
 pub blank-end : (bs : List ℕ) → eqb (spaces bs) (length bs) ≡ isEnd (token (drop (spaces bs) bs))
 blank-end bs =
-    let le = front-le (λ b. eqb b 32) bs in
+    let le = leading-le-length (λ b. eqb b 32) bs in
     let l = length-drop (spaces bs) bs in
     ⊎-elim
     (λ same. eq-eqb (spaces bs) (length bs) same ∙ sym (end-none (drop (spaces bs) bs) ∙ eq-eqb (length (drop (spaces bs) bs)) 0 (omega arith)))

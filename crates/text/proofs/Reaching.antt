@@ -9,7 +9,7 @@ use Rattle.traces.specs.declared.entry.Instruction.{Instruction}
 use Rattle.text.specs.declared.statement.Fields.{Fields}
 use Rattle.text.specs.declared.fault.Cause.the-variants.{Misfit}
 use Rattle.text.specs.Tokens.{At, token, width, skipped, nextToken, past}
-use Rattle.text.specs.Grammar.{Begins, States, decimal, Tok, number}
+use Rattle.text.specs.Grammar.{Begins, States, denoted, Tok, number}
 use Rattle.text.specs.Faults.{Viable, Leads, LineFault, misfit}
 use Rattle.text.proofs.Longest.{begins-token}
 use Rattle.text.proofs.Columns.{begins-length, skipped-column}
@@ -23,7 +23,7 @@ pub record Reached (bs : List ℕ) (n : ℕ) (w : Want) (f : Fields) (a : At) : 
   pub before : List Tok
   pub written : List ℕ
   pub small : Small written
-  pub address-is : f .address .number ≡ decimal 0 written
+  pub address-is : f .address .number ≡ denoted 0 written
   pub line-is : a .line ≡ n
   pub column-is : a .column + length (a .rest) ≡ length bs + 1
   pub leads : (ts : List Tok) (end : List ℕ) → Leads (a .rest) ts end → Leads bs (before ++ ts) end
@@ -68,7 +68,7 @@ module _ {bs : List ℕ} {n : ℕ} {w : Want} {f : Fields} {a : At} (r : Reached
   })
 
   -- past a token, where what was wanted is that token and then v
-  pub passed : (t : Tok) → nextToken a ≡ t → Begins (skipped a .rest) t (past a .rest) → (v : Want) (g : Fields) (ad : List ℕ) → Small ad → g .address .number ≡ decimal 0 ad →
+  pub passed : (t : Tok) → nextToken a ≡ t → Begins (skipped a .rest) t (past a .rest) → (v : Want) (g : Fields) (ad : List ℕ) → Small ad → g .address .number ≡ denoted 0 ad →
       ((ts : List Tok) → Follows v ad ts → Follows w (r .written) (t ∷ ts)) → ((ts : List Tok) → Follows w (r .written) (t ∷ ts) → Follows v ad ts) → Reached bs n v g (past a)
   passed t e b v g ad l same out back = record {
     before = r .before ++ t ∷ [];

@@ -66,7 +66,7 @@ line-complete n bs is (blank s) = inl (cond-true _ _ _ (ap isEnd (tokens-end bs 
 line-complete n bs is (stating {ts = ts} {i = i} h q) = let r = line-states n bs ts i h q in inr (r .0, r .1, ap (λ i. i ∷ []) (r .2))
 
 -- what is placed succeeds if it did
-placed-ok : (n : ℕ) (s : Statement) (r : Result (List Instruction) Refusal) (js : List Instruction) → placedIn n s r ≡ Ok js → r ≡ Ok js
+pub placed-ok : (n : ℕ) (s : Statement) (r : Result (List Instruction) Refusal) (js : List Instruction) → placedIn n s r ≡ Ok js → r ≡ Ok js
 placed-ok n s (Ok is) js h = ap Ok (ok-same is js h)
 placed-ok n s (Err e) js h = absurd (no-ok _ js h)
 

@@ -18,7 +18,7 @@ use Rattle.traces.specs.declared.entry.Refusal.{Refusal}
 use Rattle.traces.specs.declared.entry.Refusal.the-variants.{UnknownKind, TooManyEntries, TooManyThreads, TooManyAddresses}
 use Rattle.traces.specs.Adding.{addressIn, addressesOf, admitted, sameAddress, threadsOf, andThen, admittedAll}
 use Rattle.traces.specs.Kinds.{addressed}
-use Rattle.traces.specs.Slots.{joined}
+use Rattle.traces.specs.Slots.{listedIfAny}
 use Rattle.traces.proofs.Slotting.{appearing-push}
 use Rattle.text.specs.declared.statement.Statement.{Statement}
 use Rattle.text.specs.declared.fault.Cause.the-variants.{Trace}
@@ -88,7 +88,7 @@ brings-address before i few h =
       | inr t ↦
           let more = ltb-true 16 (length (addressesOf (before ++ i ∷ []))) h in
           let none : addressIn i ≡ None = cond-false _ _ _ t in
-          let same : addressesOf (before ++ i ∷ []) ≡ addressesOf before = appearing-push sameAddress addressIn [] before i ∙ ap (joined sameAddress (addressesOf before)) none in
+          let same : addressesOf (before ++ i ∷ []) ≡ addressesOf before = appearing-push sameAddress addressIn [] before i ∙ ap (listedIfAny sameAddress (addressesOf before)) none in
           absurd (omega (arith, ap length same))
     ]
 

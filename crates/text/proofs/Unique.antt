@@ -16,7 +16,7 @@ use Rattle.text.specs.declared.token.Symbol.{Symbol}
 use Rattle.text.specs.declared.token.Symbol.the-variants.{Colon, Sync}
 use Rattle.text.specs.declared.fault.Cause.{Cause}
 use Rattle.text.specs.declared.fault.Cause.the-variants.{Misfit, TooLarge, OtherAddress}
-use Rattle.text.specs.Grammar.{Begins, Tokens, States, a-load, a-store, a-swap, a-sync, decimal, Tok, number, fixed, ends, unknown}
+use Rattle.text.specs.Grammar.{Begins, Tokens, States, a-load, a-store, a-swap, a-sync, denoted, Tok, number, fixed, ends, unknown}
 use Rattle.text.specs.Faults.{Viable, NumberFits, Leads, LineFault, misfit, too-large, other-address, ThreadAt, AddressAt}
 use Rattle.text.proofs.Wants.{Want, Follows, at-end, any-number, new-number, same-number, the-symbol, first, second, states-follow}
 use Rattle.text.proofs.Leading.{Onward, begins-none, begins-one, leads-compare, leads-end, tokens-lead}
@@ -36,7 +36,7 @@ all-between P (x ∷ xs) y ys a = all-between P xs y ys (a .1)
 
 -- a number has 64 bits
 abbrev Sized : Tok → Type 0
-Sized (number ds) = decimal 0 ds < 2 ^ 64
+Sized (number ds) = denoted 0 ds < 2 ^ 64
 Sized (fixed s) = Unit {0}
 Sized ends = Unit {0}
 Sized unknown = Unit {0}
@@ -52,14 +52,14 @@ follows-sized (first h) = (tt, follows-sized h)
 follows-sized (second h) = follows-sized h
 
 -- a number with which some line goes on has 64 bits
-viable-sized : (ts : List Tok) (ds : List ℕ) → Viable (ts ++ number ds ∷ []) → decimal 0 ds < 2 ^ 64
+viable-sized : (ts : List Tok) (ds : List ℕ) → Viable (ts ++ number ds ∷ []) → denoted 0 ds < 2 ^ 64
 viable-sized ts ds v = all-between Sized ts (number ds) (v .0) (subst (All Sized) (append-assoc ts (number ds ∷ []) (v .0)) (follows-sized (states-follow (v .1 .1))))
 
 -- the cause at rest, behind the tokens ts: no number stands where one fits, or one stands there, by its size
 abbrev Why : Cause → List Tok → List ℕ → Type 0
 Why cause ts rest =
     (((ds more : List ℕ) → Begins rest (number ds) more → NumberFits ts → ⊥) × (cause ≡ Misfit))
-    ⊎ ((ds : List ℕ) × (more : List ℕ) × Begins rest (number ds) more × NumberFits ts × (cause ≡ cond (ltb (decimal 0 ds) (2 ^ 64)) OtherAddress TooLarge))
+    ⊎ ((ds : List ℕ) × (more : List ℕ) × Begins rest (number ds) more × NumberFits ts × (cause ≡ cond (ltb (denoted 0 ds) (2 ^ 64)) OtherAddress TooLarge))
 
 -- there is one cause
 why-one : (c d : Cause) (ts : List Tok) (rest : List ℕ) → Why c ts rest → Why d ts rest → c ≡ d
@@ -69,7 +69,7 @@ why-one c d ts rest (inr p) (inl q) = absurd (q .0 (p .0) (p .1) (p .2) (p .3))
 why-one c d ts rest (inr p) (inr q) =
     let e = begins-one rest (number (p .0)) (number (q .0)) (p .1) (q .1) (p .2) (q .2) in
     let same : p .0 ≡ q .0 = cc in
-    p .4 ∙ ap (λ ds. cond (ltb (decimal 0 ds) (2 ^ 64)) OtherAddress TooLarge) same ∙ sym (q .4)
+    p .4 ∙ ap (λ ds. cond (ltb (denoted 0 ds) (2 ^ 64)) OtherAddress TooLarge) same ∙ sym (q .4)
 
 -- the tokens behind which the line bs does not go on, and why
 record Stops (bs : List ℕ) (cause : Cause) (column : ℕ) : Type 0 where
@@ -84,7 +84,7 @@ record Stops (bs : List ℕ) (cause : Cause) (column : ℕ) : Type 0 where
 
 -- a number stands there that does not go on
 stops-number : (bs : List ℕ) (cause : Cause) (column : ℕ) (ts : List Tok) (rest : List ℕ) → Leads bs ts rest → column + length rest ≡ length bs + 1 → NumberFits ts →
-    (ds more : List ℕ) → Begins rest (number ds) more → (Viable (ts ++ number ds ∷ []) → ⊥) → cause ≡ cond (ltb (decimal 0 ds) (2 ^ 64)) OtherAddress TooLarge → Stops bs cause column
+    (ds more : List ℕ) → Begins rest (number ds) more → (Viable (ts ++ number ds ∷ []) → ⊥) → cause ≡ cond (ltb (denoted 0 ds) (2 ^ 64)) OtherAddress TooLarge → Stops bs cause column
 stops-number bs cause column ts rest l c fits ds more b none e = record {
   tokens = ts;
   left = rest;
@@ -110,10 +110,10 @@ fault-stops bs cause column (misfit ts rest _ l c v m) = record {
 }
 fault-stops bs cause column (too-large ts rest _ l c fits ds more b big) =
     stops-number bs cause column ts rest l c fits ds more b (λ v. absurd (omega (arith, viable-sized ts ds v)))
-    (sym (cond-false _ _ _ (le-ltb (decimal 0 ds) (2 ^ 64) big)))
+    (sym (cond-false _ _ _ (le-ltb (denoted 0 ds) (2 ^ 64) big)))
 fault-stops bs cause column (other-address ts rest _ l c fits ds more b small none) =
     stops-number bs cause column ts rest l c fits ds more b none
-    (sym (cond-true _ _ _ (lt-ltb (decimal 0 ds) (2 ^ 64) small)))
+    (sym (cond-true _ _ _ (lt-ltb (denoted 0 ds) (2 ^ 64) small)))
 
 module _ {bs : List ℕ} {c : Cause} {k : ℕ} (p : Stops bs c k) where
   -- no tokens of a line go on behind those where it stops

@@ -8,7 +8,7 @@ use Rattle.text.specs.declared.token.Symbol.{Symbol}
 use Rattle.text.specs.declared.token.Symbol.the-variants.{Assign, Equals, Memory, Less, Sync}
 use Rattle.text.specs.declared.statement.Part.{Part}
 use Rattle.text.specs.declared.statement.Part.the-variants.{Thread, Address, SameAddress, Read, Written, Fixed, LineEnd}
-use Rattle.text.specs.Grammar.{a-number, decimal, Writes, States, a-load, a-store, a-swap, a-sync, Tok, number, fixed, ends, unknown}
+use Rattle.text.specs.Grammar.{a-number, denoted, Writes, States, a-load, a-store, a-swap, a-sync, Tok, number, fixed, ends, unknown}
 use Rattle.text.specs.Lines.{threadParts, cellParts, loadParts, storeParts, swapParts, syncParts}
 
 -- what is wanted next: the line's end, any number, the address, the address once more, a symbol, or one of several symbols
@@ -22,14 +22,14 @@ pub data Want : Type 0 where
 
 -- ds is a run of digits, and writes a number of 64 bits
 abbrev pub Small : List ℕ → Type 0
-Small ds = Writes ds (decimal 0 ds)
+Small ds = Writes ds (denoted 0 ds)
 
 -- the tokens are what is wanted, up to the line's end; the digits ad wrote the address
 pub data Follows : Want → List ℕ → List Tok → Type 0 where
   at-end : {ad : List ℕ} → Follows finish ad []
   any-number : {w : Want} {ad ds : List ℕ} {ts : List Tok} → Small ds → Follows w ad ts → Follows (any w) ad (number ds ∷ ts)
   new-number : {w : Want} {ad ds : List ℕ} {ts : List Tok} → Small ds → Follows w ds ts → Follows (new w) ad (number ds ∷ ts)
-  same-number : {w : Want} {ad ds : List ℕ} {ts : List Tok} → Writes ds (decimal 0 ad) → Follows w ad ts → Follows (same w) ad (number ds ∷ ts)
+  same-number : {w : Want} {ad ds : List ℕ} {ts : List Tok} → Writes ds (denoted 0 ad) → Follows w ad ts → Follows (same w) ad (number ds ∷ ts)
   the-symbol : {s : Symbol} {w : Want} {ad : List ℕ} {ts : List Tok} → Follows w ad ts → Follows (symbol s w) ad (fixed s ∷ ts)
   first : {s : Symbol} {w v : Want} {ad : List ℕ} {ts : List Tok} → Follows w ad ts → Follows (either s w v) ad (fixed s ∷ ts)
   second : {s : Symbol} {w v : Want} {ad : List ℕ} {ts : List Tok} → Follows v ad ts → Follows (either s w v) ad ts
@@ -141,7 +141,7 @@ pub behind-new : {w : Want} {ad ds : List ℕ} {ts : List Tok} → Follows (new 
 behind-new (new-number l h) = h
 
 -- what follows the address once more, which has the same value
-pub behind-same : {w : Want} {ad ds : List ℕ} {ts : List Tok} → Follows (same w) ad (number ds ∷ ts) → Writes ds (decimal 0 ad) × Follows w ad ts
+pub behind-same : {w : Want} {ad ds : List ℕ} {ts : List Tok} → Follows (same w) ad (number ds ∷ ts) → Writes ds (denoted 0 ad) × Follows w ad ts
 behind-same (same-number e h) = (e, h)
 
 -- any number is a number, and so are the address and the address once more

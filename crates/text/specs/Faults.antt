@@ -16,7 +16,7 @@ use Rattle.text.specs.declared.fault.Cause.{Cause}
 use Rattle.text.specs.declared.fault.Cause.the-variants.{TooLong, Misfit, TooLarge, OtherAddress, Trace}
 use Rattle.text.specs.declared.fault.Fault.{Fault}
 use Rattle.text.specs.declared.token.Symbol.{Symbol}
-use Rattle.text.specs.Grammar.{Begins, Line, One-reading, Text, Spaces, States, decimal, Tok, number, fixed}
+use Rattle.text.specs.Grammar.{Begins, Line, One-reading, Text, Spaces, States, denoted, Tok, number, fixed}
 
 -- some line of the format begins with the tokens ts
 abbrev pub Viable : List Tok → Type 0
@@ -41,9 +41,9 @@ pub record Misfits (ts : List Tok) (rest : List ℕ) : Type 0 where
 pub data LineFault (bs : List ℕ) : Cause → ℕ → Type 0 where
   misfit : (ts : List Tok) (rest : List ℕ) (column : ℕ) → Leads bs ts rest → column + length rest ≡ length bs + 1 → Viable ts → Misfits ts rest → LineFault bs Misfit column
   too-large : (ts : List Tok) (rest : List ℕ) (column : ℕ) → Leads bs ts rest → column + length rest ≡ length bs + 1 → NumberFits ts →
-      (ds more : List ℕ) → Begins rest (number ds) more → 2 ^ 64 ≤ decimal 0 ds → LineFault bs TooLarge column
+      (ds more : List ℕ) → Begins rest (number ds) more → 2 ^ 64 ≤ denoted 0 ds → LineFault bs TooLarge column
   other-address : (ts : List Tok) (rest : List ℕ) (column : ℕ) → Leads bs ts rest → column + length rest ≡ length bs + 1 → NumberFits ts →
-      (ds more : List ℕ) → Begins rest (number ds) more → decimal 0 ds < 2 ^ 64 → (Viable (ts ++ number ds ∷ []) → ⊥) → LineFault bs OtherAddress column
+      (ds more : List ℕ) → Begins rest (number ds) more → denoted 0 ds < 2 ^ 64 → (Viable (ts ++ number ds ∷ []) → ⊥) → LineFault bs OtherAddress column
 
 -- the thread number of the line bs stands at a column
 abbrev pub ThreadAt : List ℕ → ℕ → Type 0

@@ -54,13 +54,13 @@ pub data Tokens : List ℕ → List Tok → Type 0 where
   more : (gap bs rest : List ℕ) {t : Tok} {ts : List Tok} → Spaces gap → Begins bs t rest → Tokens rest ts → Tokens (gap ++ bs) (t ∷ ts)
 
 -- the number that digits denote, read behind the number n
-abbrev pub decimal : ℕ → List ℕ → ℕ
-decimal n [] = n
-decimal n (b ∷ bs) = decimal (n * 10 + (b - 48)) bs
+abbrev pub denoted : ℕ → List ℕ → ℕ
+denoted n [] = n
+denoted n (b ∷ bs) = denoted (n * 10 + (b - 48)) bs
 
 -- ds is a run of digits that denotes the number n, which fits in 64 bits
 abbrev pub Writes : List ℕ → ℕ → Type 0
-Writes ds n = Spells ds (number ds) × (decimal 0 ds ≡ n) × (n < 2 ^ 64)
+Writes ds n = Spells ds (number ds) × (denoted 0 ds ≡ n) × (n < 2 ^ 64)
 
 -- the tokens of a line, and the instruction that they state
 pub data States : List Tok → Instruction → Type 0 where

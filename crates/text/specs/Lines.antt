@@ -22,11 +22,11 @@ use Rattle.text.specs.declared.fault.Cause.{Cause}
 use Rattle.text.specs.declared.fault.Cause.the-variants.{Misfit, TooLarge, OtherAddress}
 use Rattle.text.specs.declared.fault.Fault.{Fault}
 use Rattle.text.specs.Tokens.{At, skipped, nextToken, past}
-use Rattle.text.specs.Grammar.{decimal, Tok, number, fixed, ends, unknown}
+use Rattle.text.specs.Grammar.{denoted, Tok, number, fixed, ends, unknown}
 
 -- the number that digits denote, where it fits in 64 bits
 abbrev pub valueOf : List ℕ → Option ℕ
-valueOf ds = cond (ltb (decimal 0 ds) (2 ^ 64)) (Some (decimal 0 ds)) None
+valueOf ds = cond (ltb (denoted 0 ds) (2 ^ 64)) (Some (denoted 0 ds)) None
 
 -- the number, or the cause of a number that is too large
 abbrev pub orTooLarge : Option ℕ → Result ℕ Cause

@@ -1,28 +1,24 @@
 -- The token at a place of a line, found from the bytes that stand there.
 use mathlib.Core.Bool.{Bool, cond}
-use mathlib.Core.List.{List, [], _∷_}
-use Prim.Native.Nat.{ℕ, suc, _+_}
+use mathlib.Core.List.{List}
+use Prim.Native.Nat.{ℕ, _+_}
 use lib.Dec.{eqb, ltb}
 use lib.ListN.{length, getD, take, drop}
 use Rattle.std.specs.Text.{asciiDigit}
+use Rattle.std.specs.shelf.Lists.{leading}
 use Rattle.std.specs.declared.option.Option.{Option}
 use Rattle.std.specs.declared.option.Option.the-variants.{Some, None}
 use Rattle.text.specs.declared.token.Symbol.{Symbol}
 use Rattle.text.specs.Grammar.{Tok, number, fixed, ends, unknown}
 use Rattle.text.specs.declared.token.Symbol.the-variants.{Colon, Assign, Equals, Memory, Open, Close, Less, Greater, Semicolon, Sync}
 
--- how many bytes at the front pass a test
-abbrev pub front : (ℕ → Bool) → List ℕ → ℕ
-front test [] = 0
-front test (b ∷ bs) = cond (test b) (suc (front test bs)) 0
-
 -- how many digits stand at the front
 abbrev pub digits : List ℕ → ℕ
-digits bs = front asciiDigit bs
+digits bs = leading asciiDigit bs
 
 -- how many spaces stand at the front
 abbrev pub spaces : List ℕ → ℕ
-spaces bs = front (λ b. eqb b 32) bs
+spaces bs = leading (λ b. eqb b 32) bs
 
 -- whether bs has b at the place i; no symbol has the byte 0, which is read past the end
 abbrev pub has : List ℕ → ℕ → ℕ → Bool

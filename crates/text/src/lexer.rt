@@ -4,9 +4,10 @@ ghost use Prim.Native.Nat.{_+_, _<_, _≤_};
 ghost use lib.Dec.{eqb};
 ghost use lib.ListN.{length, drop};
 ghost use Rattle.std.specs.Options.{Cases as BySome, mapped};
+ghost use Rattle.std.specs.shelf.Lists.{leading as leadingBytes};
 ghost use Rattle.text.specs.Lines.{isEnd};
 ghost use Rattle.text.specs.Places.{SameLine, Starts, at, behind, firstLine, left, tok};
-ghost use Rattle.text.specs.Tokens.{front, nextToken, on, past, skipped, symbolAt, symbolWidth, token, width};
+ghost use Rattle.text.specs.Tokens.{nextToken, on, past, skipped, symbolAt, symbolWidth, token, width};
 use crate::class::ByteClass;
 use crate::class::Digit;
 use crate::class::DigitClass;
@@ -21,7 +22,7 @@ use traces::first_equal;
 // How many bytes of a class `bytes` begins with.
 fn leading<C: ByteClass>(bytes: &[u8]) -> usize
     ensures within { λ r. ⌜ r ≤ length (now (bytes .entry)) ⌝ }
-    ensures count { λ r. ⌜ r ≡ front (C·ByteClass .member) (now (bytes .entry)) ⌝ }
+    ensures count { λ r. ⌜ r ≡ leadingBytes (C·ByteClass .member) (now (bytes .entry)) ⌝ }
 {
     let mut n = 0;
     while n < bytes.len() && C::has(bytes[n]) {

@@ -32,13 +32,8 @@ fn value_of(digits: &[u8]) -> Option<u64>
 {
     let mut n: u64 = 0;
     for b in digits {
-        let Some(tens) = n.checked_mul(10) else {
-            return None;
-        };
-        let Some(sum) = tens.checked_add(u64::from(b.saturating_sub(b'0'))) else {
-            return None;
-        };
-        n = sum;
+        let tens = n.checked_mul(10)?;
+        n = tens.checked_add(u64::from(b.saturating_sub(b'0')))?;
     }
     Some(n)
 }

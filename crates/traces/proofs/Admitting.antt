@@ -20,7 +20,7 @@ use Rattle.traces.specs.declared.entry.Refusal.the-variants.{TooManyEntries, T
 use Rattle.traces.specs.Adding.{sameAddress, threadIn, addressIn, threadsOf, addressesOf, admitted}
 use Rattle.traces.specs.First.{SlotOf}
 use Rattle.traces.specs.Kinds.{address, addressed, instruction, reads, writes}
-use Rattle.traces.specs.Slots.{slot, listed, joined, grown}
+use Rattle.traces.specs.Slots.{slot, listed, listedIfAny, grown}
 use Rattle.traces.specs.Stated.{statedBy, stated, ThreadsNamed, AddressesNamed, cleared}
 use Rattle.traces.proofs.Slotting.{Sameness, slot-listed, getD-slot, length-listed, getD-listed, appearing-push, slot-search}
 use Rattle.traces.proofs.Stating.{same-numbers, same-addresses, each-push, stated-same}
@@ -31,7 +31,7 @@ slotIn same xs None = 0
 slotIn same xs (Some x) = slot same xs x
 
 -- putting what is brought at its slot lists it
-pub grown-joined : {X : Type 0} (same : X → X → Bool) (xs : List X) (o : Option X) (s : ℕ) → s ≡ slotIn same xs o → grown xs o s ≡ joined same xs o
+pub grown-joined : {X : Type 0} (same : X → X → Bool) (xs : List X) (o : Option X) (s : ℕ) → s ≡ slotIn same xs o → grown xs o s ≡ listedIfAny same xs o
 grown-joined same xs None s e = refl
 grown-joined same xs (Some x) s e = ap (λ n. cond (ltb n (length xs)) xs (xs ++ x ∷ [])) e
 
@@ -52,16 +52,16 @@ pub slot-address-at : (ys xs : List Address) (p o : Option Address) (s : ℕ) �
 slot-address-at ys xs p o s e f h = slot-address xs o s (subst (λ l. SlotOf (λ y z r. Decides r (y .number ≡ z .number)) l o s) e (subst (λ q. SlotOf (λ y z r. Decides r (y .number ≡ z .number)) ys q s) f h))
 
 -- how long a list is once something is brought, if anything is
-pub length-joined : {X : Type 0} (same : X → X → Bool) (xs : List X) (o : Option X) (n : ℕ) → length xs ≤ n → slotIn same xs o < n → (length (joined same xs o) ≤ n) × (length xs ≤ length (joined same xs o))
+pub length-joined : {X : Type 0} (same : X → X → Bool) (xs : List X) (o : Option X) (n : ℕ) → length xs ≤ n → slotIn same xs o < n → (length (listedIfAny same xs o) ≤ n) × (length xs ≤ length (listedIfAny same xs o))
 length-joined same xs None n h l = (h, omega arith)
 length-joined same xs (Some x) n h l = let e = length-listed same xs x in (omega arith, omega arith)
 
-pub length-joined-over : {X : Type 0} (same : X → X → Bool) (xs : List X) (o : Option X) (n : ℕ) → 0 < n → n ≤ slotIn same xs o → n < length (joined same xs o)
+pub length-joined-over : {X : Type 0} (same : X → X → Bool) (xs : List X) (o : Option X) (n : ℕ) → 0 < n → n ≤ slotIn same xs o → n < length (listedIfAny same xs o)
 length-joined-over same xs None n z h = absurd (omega arith)
 length-joined-over same xs (Some x) n z h = omega (arith, length-listed same xs x)
 
 -- what was listed stays where it was
-pub getD-joined : {X : Type 0} (same : X → X → Bool) (xs : List X) (o : Option X) (d : X) (k : ℕ) → k < length xs → getD (joined same xs o) k d ≡ getD xs k d
+pub getD-joined : {X : Type 0} (same : X → X → Bool) (xs : List X) (o : Option X) (d : X) (k : ℕ) → k < length xs → getD (listedIfAny same xs o) k d ≡ getD xs k d
 getD-joined same xs None d k h = refl
 getD-joined same xs (Some x) d k h = getD-listed same xs x d k h
 
@@ -79,11 +79,11 @@ getD-brought same law xs x d =
 abbrev brought : Bool → Address → Option Address
 brought b a = cond b (Some (cond b a (address 0))) None
 
-address-stated : (b : Bool) (a : Address) (ds : List Address) → cond b (getD (joined sameAddress ds (brought b a)) (slotIn sameAddress ds (brought b a)) (address 0)) (address 0) ≡ cond b a (address 0)
+address-stated : (b : Bool) (a : Address) (ds : List Address) → cond b (getD (listedIfAny sameAddress ds (brought b a)) (slotIn sameAddress ds (brought b a)) (address 0)) (address 0) ≡ cond b a (address 0)
 address-stated true a ds = getD-brought sameAddress same-addresses ds a (address 0)
 address-stated false a ds = refl
 
-address-inside : (b : Bool) (a : Address) (ds : List Address) → b ≡ true → slotIn sameAddress ds (brought b a) < length (joined sameAddress ds (brought b a))
+address-inside : (b : Bool) (a : Address) (ds : List Address) → b ≡ true → slotIn sameAddress ds (brought b a) < length (listedIfAny sameAddress ds (brought b a))
 address-inside true a ds e = slot-inside sameAddress ds a
 address-inside false a ds e = absurd (both-ways false refl e)
 
@@ -116,7 +116,7 @@ module _ (ts : List ℕ) (ds : List Address) (es : List Entry) (t : ℕ) (k : Ki
   moreThreads = listed eqb ts t
 
   abbrev pub moreAddresses : List Address
-  moreAddresses = joined sameAddress ds (addressIn new)
+  moreAddresses = listedIfAny sameAddress ds (addressIn new)
 
   abbrev pub moreEntries : List Entry
   moreEntries = es ++ newEntry ts ds t k a r w ∷ []
@@ -162,7 +162,7 @@ module _ (ts : List ℕ) (ds : List Address) (es : List Entry) (t : ℕ) (k : Ki
 
     -- the same of addresses
     pub addresses-more : addressesOf (before ++ new ∷ []) ≡ moreAddresses
-    addresses-more = appearing-push sameAddress addressIn [] before new ∙ ap (λ l. joined sameAddress l (addressIn new)) (sym appear-d)
+    addresses-more = appearing-push sameAddress addressIn [] before new ∙ ap (λ l. listedIfAny sameAddress l (addressIn new)) (sym appear-d)
 
     -- a draft that is full refuses
     pub refused-entries : 64 ≤ length es → admitted before new ≡ Err TooManyEntries

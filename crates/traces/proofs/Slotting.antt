@@ -12,7 +12,7 @@ use Rattle.std.specs.declared.option.Option.the-variants.{Some, None}
 use Rattle.std.proofs.shelf.Lists.{append-assoc, append-nil, length-push, getD-push, getD-append-left, take-at, take-append-drop}
 use Rattle.std.proofs.shelf.Tests.{cases-bool, cases-lt, cond-true, cond-false, ltb-true, ltb-false, both-ways}
 use Rattle.traces.specs.First.{FirstOrEnd}
-use Rattle.traces.specs.Slots.{slot, listed, joined, appearing, Distinct}
+use Rattle.traces.specs.Slots.{slot, listed, listedIfAny, appearing, Distinct}
 
 -- a test of sameness that answers true exactly at equal elements
 pub record Sameness {X : Type 0} (same : X → X → Bool) : Type 0 where
@@ -63,26 +63,26 @@ module _ {X : Type 0} (same : X → X → Bool) where
       (λ f. (x ∷ [], cond-false _ xs (xs ++ x ∷ []) f))
       (cases-bool (ltb (slot same xs x) (length xs)))
 
-  joined-front : (xs : List X) (o : Option X) → (zs : List X) × (joined same xs o ≡ xs ++ zs)
+  joined-front : (xs : List X) (o : Option X) → (zs : List X) × (listedIfAny same xs o ≡ xs ++ zs)
   joined-front xs None = ([], sym (append-nil xs))
   joined-front xs (Some x) = listed-front xs x
 
   module _ {Y : Type 0} (brings : Y → Option X) where
     -- one more instruction, at the end
-    pub appearing-push : (xs : List X) (ys : List Y) (y : Y) → appearing same brings xs (ys ++ y ∷ []) ≡ joined same (appearing same brings xs ys) (brings y)
+    pub appearing-push : (xs : List X) (ys : List Y) (y : Y) → appearing same brings xs (ys ++ y ∷ []) ≡ listedIfAny same (appearing same brings xs ys) (brings y)
     appearing-push xs [] y = refl
-    appearing-push xs (z ∷ zs) y = appearing-push (joined same xs (brings z)) zs y
+    appearing-push xs (z ∷ zs) y = appearing-push (listedIfAny same xs (brings z)) zs y
 
     pub appearing-append : (xs : List X) (ys zs : List Y) → appearing same brings xs (ys ++ zs) ≡ appearing same brings (appearing same brings xs ys) zs
     appearing-append xs [] zs = refl
-    appearing-append xs (y ∷ ys) zs = appearing-append (joined same xs (brings y)) ys zs
+    appearing-append xs (y ∷ ys) zs = appearing-append (listedIfAny same xs (brings y)) ys zs
 
     -- what has appeared is a front of all that appears
     pub appearing-front : (xs : List X) (ys : List Y) → (zs : List X) × (appearing same brings xs ys ≡ xs ++ zs)
     appearing-front xs [] = ([], sym (append-nil xs))
     appearing-front xs (y ∷ ys) =
         let one = joined-front xs (brings y) in
-        let more = appearing-front (joined same xs (brings y)) ys in
+        let more = appearing-front (listedIfAny same xs (brings y)) ys in
         (one .0 ++ more .0, more .1 ∙ ap (λ l. l ++ more .0) (one .1) ∙ append-assoc xs (one .0) (more .0))
 
     -- what the first n instructions bring is a front of all that is brought
@@ -149,14 +149,14 @@ module _ {X : Type 0} (same : X → X → Bool) where
         (λ f. subst (Distinct d) (sym (cond-false _ xs (xs ++ x ∷ []) f)) (distinct-push d xs x distinct (ltb-false _ _ f)))
         (cases-bool (ltb (slot same xs x) (length xs)))
 
-    pub distinct-joined : (d : X) (xs : List X) (o : Option X) → Distinct d xs → Distinct d (joined same xs o)
+    pub distinct-joined : (d : X) (xs : List X) (o : Option X) → Distinct d xs → Distinct d (listedIfAny same xs o)
     distinct-joined d xs None distinct = distinct
     distinct-joined d xs (Some x) distinct = distinct-listed d xs x distinct
 
     -- elements that are listed by first appearance differ
     pub distinct-appearing : {Y : Type 0} (brings : Y → Option X) (d : X) (xs : List X) (ys : List Y) → Distinct d xs → Distinct d (appearing same brings xs ys)
     distinct-appearing brings d xs [] distinct = distinct
-    distinct-appearing brings d xs (y ∷ ys) distinct = distinct-appearing brings d (joined same xs (brings y)) ys (distinct-joined d xs (brings y) distinct)
+    distinct-appearing brings d xs (y ∷ ys) distinct = distinct-appearing brings d (listedIfAny same xs (brings y)) ys (distinct-joined d xs (brings y) distinct)
 
     -- an element's slot is the same in the list so far and in the list of all that appears
     pub slot-appearing : {Y : Type 0} (brings : Y → Option X) (xs : List X) (ys : List Y) (x : X) → slot same (appearing same brings (listed same xs x) ys) x ≡ slot same xs x

@@ -6,7 +6,7 @@ use mathlib.Core.List.{List, [], _∷_, _++_, map}
 use Prim.Native.Nat.{ℕ, zero, suc, max, _+_, _<_}
 use native.Mathlib.Omega.{arith}
 use lib.Dec.{eqb}
-use lib.ListN.{length, getD, take, drop}
+use lib.ListN.{length, getD, take}
 use denote.Ref.{RefT, now}
 use Rattle.std.specs.Finite.{nth}
 use Rattle.std.specs.Options.{mapped}
@@ -21,7 +21,7 @@ use Rattle.traces.specs.declared.entry.Entry.{Entry}
 use Rattle.traces.specs.declared.entry.Instruction.{Instruction}
 use Rattle.traces.specs.Adding.{sameAddress}
 use Rattle.traces.specs.Kinds.{address, addressed, instruction}
-use Rattle.traces.specs.Slots.{slot, listed, joined, appearing, Distinct}
+use Rattle.traces.specs.Slots.{slot, listed, listedIfAny, appearing, Distinct}
 use Rattle.traces.specs.Stated.{statedBy, stated, entryOf, ThreadsNamed, AddressesNamed, cleared, reach}
 use Rattle.traces.proofs.Slotting.{Sameness, slot-own, slot-appearing, length-listed}
 
@@ -76,16 +76,14 @@ entry-again ts ds e dt dd lt la plain =
     ap (λ t. record { thread = t; kind = e .kind; address = cond (addressed (e .kind)) (slot sameAddress ds (cond (addressed (e .kind)) (getD ds (e .address) (address 0)) (address 0))) 0; read = e .read; written = e .written }) (slot-own eqb same-numbers 0 ts dt (e .thread) lt)
     ∙ ap (λ a. record { thread = e .thread; kind = e .kind; address = a; read = e .read; written = e .written }) (address-again (addressed (e .kind)) 0 (e .address) (getD ds (e .address) (address 0)) ds (λ t. slot-own sameAddress same-addresses (address 0) ds dd (e .address) (la t)) (ap (λ (x : Entry). x .address) plain))
 
-head-of : {X : Type 0} (d x y : X) (xs ys : List X) → _≡_ {A = List X} (x ∷ xs) (y ∷ ys) → (x ≡ y) × (xs ≡ ys)
-head-of d x y xs ys e = (ap (λ l. getD l 0 d) e, ap (drop 1) e)
-
 -- entries are told again from their instructions
 pub entries-again : (ts : List ℕ) (ds : List Address) (es : List Entry) → Distinct 0 ts → Distinct (address 0) ds → ThreadsNamed (length ts) es → AddressesNamed (length ds) es → map cleared es ≡ es → map (entryOf ts ds) (stated ts ds es) ≡ es
 entries-again ts ds [] dt dd nt nd plain = refl
 entries-again ts ds (e ∷ es) dt dd nt nd plain =
-    let both = head-of e (cleared e) e (map cleared es) es plain in
-    ap (λ x. x ∷ map (entryOf ts ds) (stated ts ds es)) (entry-again ts ds e dt dd (each-head (λ x. x .thread < length ts) e es nt) (each-head (λ x. addressed (x .kind) ≡ true → x .address < length ds) e es nd) (both .0))
-    ∙ ap (λ l. e ∷ l) (entries-again ts ds es dt dd (each-tail (λ x. x .thread < length ts) e es nt) (each-tail (λ x. addressed (x .kind) ≡ true → x .address < length ds) e es nd) (both .1))
+    let here : cleared e ≡ e = cc in
+    let there : map cleared es ≡ es = cc in
+    ap (λ x. x ∷ map (entryOf ts ds) (stated ts ds es)) (entry-again ts ds e dt dd (each-head (λ x. x .thread < length ts) e es nt) (each-head (λ x. addressed (x .kind) ≡ true → x .address < length ds) e es nd) here)
+    ∙ ap (λ l. e ∷ l) (entries-again ts ds es dt dd (each-tail (λ x. x .thread < length ts) e es nt) (each-tail (λ x. addressed (x .kind) ≡ true → x .address < length ds) e es nd) there)
 
 -- how much the entries that are kept need is how much they bring
 module _ {X : Type 0} (same : X → X → Bool) (law : Sameness same) (brings : Instruction → Option X) (of : Entry → ℕ) (f : Entry → Instruction) (whole : List X) where
@@ -98,26 +96,15 @@ module _ {X : Type 0} (same : X → X → Bool) (law : Sameness same) (brings : 
   reach-appearing xs es w h zero = omega arith
   reach-appearing xs [] w h (suc n) = omega arith
   reach-appearing xs (e ∷ es) w h (suc n) =
-      let more = reach-appearing (joined same xs (brings (f e))) es w (each-tail Needs e es h) n in
+      let more = reach-appearing (listedIfAny same xs (brings (f e))) es w (each-tail Needs e es h) n in
       ⊎-elim
-      (λ none. let same-length = ap (λ o. length (joined same xs o)) (none .0) in more ∙ omega (arith, none .1))
+      (λ none. let same-length = ap (λ o. length (listedIfAny same xs o)) (none .0) in more ∙ omega (arith, none .1))
       (λ some.
-      let w′ : appearing same brings (listed same xs (some .0)) (map f es) ≡ whole = ap (λ o. appearing same brings (joined same xs o) (map f es)) (sym (some .1)) ∙ w in
+      let w′ : appearing same brings (listed same xs (some .0)) (map f es) ≡ whole = ap (λ o. appearing same brings (listedIfAny same xs o) (map f es)) (sym (some .1)) ∙ w in
       let at : slot same whole (some .0) ≡ slot same xs (some .0) = ap (λ l. slot same l (some .0)) (sym w′) ∙ slot-appearing same law brings xs (map f es) (some .0) in
-      let same-length : length (joined same xs (brings (f e))) ≡ max (length xs) (slot same xs (some .0) + 1) = ap (λ o. length (joined same xs o)) (some .1) ∙ length-listed same xs (some .0) in
+      let same-length : length (listedIfAny same xs (brings (f e))) ≡ max (length xs) (slot same xs (some .0) + 1) = ap (λ o. length (listedIfAny same xs o)) (some .1) ∙ length-listed same xs (some .0) in
       more ∙ omega (arith, some .2))
       (each-head Needs e es h)
-
--- the place of a list that is made element by element
-pub nth-map-some : {X Y : Type 0} (f : X → Y) (xs : List X) (i : ℕ) (x : X) → nth xs i ≡ Some x → nth (map f xs) i ≡ Some (f x)
-nth-map-some f [] i x e = let z : _≡_ {A = ℕ} 0 1 = cc in absurd (omega arith)
-nth-map-some f (y ∷ ys) zero x e = cc
-nth-map-some f (y ∷ ys) (suc i) x e = nth-map-some f ys i x e
-
-pub nth-map-none : {X Y : Type 0} (f : X → Y) (xs : List X) (i : ℕ) → nth xs i ≡ None → nth (map f xs) i ≡ None
-nth-map-none f [] i e = refl
-nth-map-none f (y ∷ ys) zero e = let z : _≡_ {A = ℕ} 0 1 = cc in absurd (omega arith)
-nth-map-none f (y ∷ ys) (suc i) e = nth-map-none f ys i e
 
 -- an element is at its place
 pub nth-within : {X : Type 0} (xs : List X) (i : ℕ) (x : X) → nth xs i ≡ Some x → (i < length xs) × (getD xs i x ≡ x)

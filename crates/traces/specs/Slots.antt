@@ -18,14 +18,14 @@ abbrev pub listed : {X : Type 0} → (X → X → Bool) → List X → X → Lis
 listed same xs x = cond (ltb (slot same xs x) (length xs)) xs (xs ++ x ∷ [])
 
 -- xs with what an element brings, if it brings anything
-abbrev pub joined : {X : Type 0} → (X → X → Bool) → List X → Option X → List X
-joined same xs None = xs
-joined same xs (Some x) = listed same xs x
+abbrev pub listedIfAny : {X : Type 0} → (X → X → Bool) → List X → Option X → List X
+listedIfAny same xs None = xs
+listedIfAny same xs (Some x) = listed same xs x
 
 -- xs, and behind it what the elements of a list bring, in the order of first appearance
 abbrev pub appearing : {X Y : Type 0} → (X → X → Bool) → (Y → Option X) → List X → List Y → List X
 appearing same brings xs [] = xs
-appearing same brings xs (y ∷ ys) = appearing same brings (joined same xs (brings y)) ys
+appearing same brings xs (y ∷ ys) = appearing same brings (listedIfAny same xs (brings y)) ys
 
 -- the elements of two different places differ; d is what is read past the end
 abbrev pub Distinct : {X : Type 0} → X → List X → Type 0

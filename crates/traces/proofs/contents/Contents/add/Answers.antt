@@ -12,7 +12,7 @@ use Rattle.traces.specs.declared.entry.Entry.{Entry}
 use Rattle.traces.specs.declared.entry.Instruction.{Instruction}
 use Rattle.traces.specs.Adding.{addressIn, admitted, sameAddress}
 use Rattle.traces.specs.Kinds.{instruction}
-use Rattle.traces.specs.Slots.{grown, joined, slot}
+use Rattle.traces.specs.Slots.{grown, listedIfAny, slot}
 use Rattle.traces.specs.Stated.{ThreadsNamed, AddressesNamed, stated}
 use Rattle.traces.proofs.Slotting.{length-listed}
 use Rattle.traces.proofs.Admitting.{slotIn, slot-number-at, slot-address-at, grown-joined, moreThreads, moreAddresses, moreEntries, refused-entries, refused-thread, refused-address, accepted-all, length-joined, stated-more}
@@ -81,7 +81,7 @@ module _ (c : After-push-reserved) where
       ∙ ap (λ n. es ++ record { thread = slot eqb ts (c .args .thread); kind = c .args .kind; address = n; read = c .new-added .result .read; written = c .new-added .result .written } ∷ []) address-slot
       ∙ ap (λ (i : Instruction). es ++ record { thread = slot eqb ts (c .args .thread); kind = c .args .kind; address = slotIn sameAddress ds (addressIn new); read = i .read; written = i .written } ∷ []) (c .new-added .ensures)
 
-  few-addresses : (length (joined sameAddress ds (addressIn new)) ≤ 16) × (length ds ≤ length (joined sameAddress ds (addressIn new)))
+  few-addresses : (length (listedIfAny sameAddress ds (addressIn new)) ≤ 16) × (length ds ≤ length (listedIfAny sameAddress ds (addressIn new)))
   few-addresses = length-joined sameAddress ds (addressIn new) 16 (omega arith) (omega (arith, address-slot))
 
   held-now : Held (vec-items (c .enlist .last .items)) (vec-items (c .enlist-2 .last .items)) (vec-items (c .push-reserved .last .self))
@@ -100,7 +100,7 @@ ghost-self c =
     let n = c .len .ensures ∙ length-held (c .args .self .now) in
     let t = length-listed eqb (ts c) (c .args .thread) in
     let threads-length : vec-len (c .enlist .last .items) ≡ max (length (ts c)) (slot eqb (ts c) (c .args .thread) + 1) = c .enlist .last .items .ok .0 ∙ ap length (threads-now c) ∙ t in
-    let addresses-length : vec-len (c .enlist-2 .last .items) ≡ length (joined sameAddress (ds c) (addressIn (new c))) = c .enlist-2 .last .items .ok .0 ∙ ap length (addresses-now c) in (
+    let addresses-length : vec-len (c .enlist-2 .last .items) ≡ length (listedIfAny sameAddress (ds c) (addressIn (new c))) = c .enlist-2 .last .items .ok .0 ∙ ap length (addresses-now c) in (
       omega arith,
       (
         omega (arith, thread-slot c),
