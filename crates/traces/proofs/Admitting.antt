@@ -1,7 +1,7 @@
 -- One more instruction: when it is refused, and what is held once it is there.
-use Rattle.std.proofs.Common.{◌≡◌, ℕ, ◌+◌, ◌<◌, ◌≤◌, Bool, true, false, cond, eqb, ltb, leb, List, [], ◌∷◌, ◌++◌, map, length, get_or, Some, None, Ok, Err, Decides, Option, sym, refl, ap, ◌∙◌, subst, arith}
+use Rattle.std.proofs.Common.{◌≡◌, ℕ, ◌<◌, ◌≤◌, Bool, true, false, cond, eqb, ltb, leb, List, [], ◌∷◌, ◌++◌, map, length, get_or, Some, None, Ok, Err, Option, sym, refl, ap, ◌∙◌, subst, arith}
 use Rattle.std.proofs.lemmas.List.{map-append, length-map}
-use Rattle.std.proofs.lemmas.Bool.{cond-true, cond-false, le-leb, lt-leb, lt-ltb, le-ltb, eq-eqb, ne_eqb, both_ways}
+use Rattle.std.proofs.lemmas.Bool.{cond-true, cond-false, le-leb, lt-leb, lt-ltb, le-ltb, both_ways}
 use Rattle.traces.specs.declared.entry.Address.{Address}
 use Rattle.traces.specs.declared.entry.Entry.{Entry}
 use Rattle.traces.specs.declared.entry.Instruction.{Instruction}
@@ -26,20 +26,20 @@ grown_joined same xs None s e = refl
 grown_joined same xs (Some x) s e = ap (λ n. cond (ltb n (length xs)) xs (xs ++ x ∷ [])) e
 
 -- what a search finds is the slot, at thread numbers and at addresses
-pub slot_number : (xs : List ℕ) (o : Option ℕ) (s : ℕ) → SlotOf (λ y x r. Decides r (y ≡ x)) xs o s → s ≡ slot_in eqb xs o
+pub slot_number : (xs : List ℕ) (o : Option ℕ) (s : ℕ) → SlotOf (λ y x r. r ≡ eqb y x) xs o s → s ≡ slot_in eqb xs o
 slot_number xs None s h = h
-slot_number xs (Some x) s h = sym (slot_search eqb same_numbers (λ y r. Decides r (y ≡ x)) x (λ y d. eq-eqb y x (d.0 refl)) (λ y d. ne_eqb y x (λ e. both_ways false refl (d.1 e))) 0 xs s h)
+slot_number xs (Some x) s h = sym (slot_search eqb same_numbers (λ y r. r ≡ eqb y x) x (λ y d. sym d) (λ y d. sym d) 0 xs s h)
 
-pub slot_address : (xs : List Address) (o : Option Address) (s : ℕ) → SlotOf (λ y x r. Decides r (y.number ≡ x.number)) xs o s → s ≡ slot_in same_address xs o
+pub slot_address : (xs : List Address) (o : Option Address) (s : ℕ) → SlotOf (λ y x r. r ≡ same_address y x) xs o s → s ≡ slot_in same_address xs o
 slot_address xs None s h = h
-slot_address xs (Some x) s h = sym (slot_search same_address same_addresses (λ y r. Decides r (y.number ≡ x.number)) x (λ y d. eq-eqb y.number x.number (d.0 refl)) (λ y d. ne_eqb y.number x.number (λ e. both_ways false refl (d.1 e))) (address 0) xs s h)
+slot_address xs (Some x) s h = sym (slot_search same_address same_addresses (λ y r. r ≡ same_address y x) x (λ y d. sym d) (λ y d. sym d) (address 0) xs s h)
 
 -- the same where the list that is searched equals another
-pub slot_number_at : (ys xs : List ℕ) (x s : ℕ) → ys ≡ xs → SlotOf (λ y z r. Decides r (y ≡ z)) ys (Some x) s → s ≡ slot eqb xs x
-slot_number_at ys xs x s e h = slot_number xs (Some x) s (subst (λ l. SlotOf (λ y z r. Decides r (y ≡ z)) l (Some x) s) e h)
+pub slot_number_at : (ys xs : List ℕ) (x s : ℕ) → ys ≡ xs → SlotOf (λ y z r. r ≡ eqb y z) ys (Some x) s → s ≡ slot eqb xs x
+slot_number_at ys xs x s e h = slot_number xs (Some x) s (subst (λ l. SlotOf (λ y z r. r ≡ eqb y z) l (Some x) s) e h)
 
-pub slot_address_at : (ys xs : List Address) (p o : Option Address) (s : ℕ) → ys ≡ xs → p ≡ o → SlotOf (λ y z r. Decides r (y.number ≡ z.number)) ys p s → s ≡ slot_in same_address xs o
-slot_address_at ys xs p o s e f h = slot_address xs o s (subst (λ l. SlotOf (λ y z r. Decides r (y.number ≡ z.number)) l o s) e (subst (λ q. SlotOf (λ y z r. Decides r (y.number ≡ z.number)) ys q s) f h))
+pub slot_address_at : (ys xs : List Address) (p o : Option Address) (s : ℕ) → ys ≡ xs → p ≡ o → SlotOf (λ y z r. r ≡ same_address y z) ys p s → s ≡ slot_in same_address xs o
+slot_address_at ys xs p o s e f h = slot_address xs o s (subst (λ l. SlotOf (λ y z r. r ≡ same_address y z) l o s) e (subst (λ q. SlotOf (λ y z r. r ≡ same_address y z) ys q s) f h))
 
 -- how long a list is once something is brought, if anything is
 pub length_joined : {X : Type 0} (same : X → X → Bool) (xs : List X) (o : Option X) (n : ℕ) → length xs ≤ n → slot_in same xs o < n → (length (listed_if_any same xs o) ≤ n) × (length xs ≤ length (listed_if_any same xs o))

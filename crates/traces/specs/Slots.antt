@@ -1,5 +1,5 @@
 -- Lists of different elements in the order of their first appearance, and the places in them.
-use Rattle.std.specs.Prelude.{◌≡◌, ℕ, suc, ◌<◌, Bool, cond, List, [], ◌∷◌, ◌++◌, length, Some, None, Option, ◌≢◌, nat_lt, slice_index_or}
+use Rattle.std.specs.Prelude.{ℕ, suc, ◌<◌, Bool, cond, List, [], ◌∷◌, ◌++◌, length, Some, None, Option, ◌≢◌, nat_lt, slice_index_or}
 
 -- the place of the first element that is the same as x, or the length where there is none
 abbrev pub slot : {X : Type 0} → (X → X → Bool) → List X → X → ℕ

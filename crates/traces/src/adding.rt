@@ -122,7 +122,7 @@ impl Contents {
 
 // The slot of what is brought: the place of the first equal item, or the next free one. 0 where nothing is brought.
 fn slot_of<T: PartialEq + Copy>(items: &[T], brought: Option<T>) -> usize
-    ensures { SlotOf (λ y x. (λ r'. r' ≡ eq y x)) items.now brought result }
+    ensures { SlotOf (λ y x r. r ≡ T.eq y x) items.now brought result }
 {
     let Some(x) = brought else {
         return 0;

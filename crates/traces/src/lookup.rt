@@ -4,7 +4,7 @@ ghost use Rattle.std.specs.Prelude.{◌≡◌};
 
 // The place of the first element of `items` that equals `x`, or `None` where none does.
 pub fn first_equal<T: PartialEq>(items: &[T], x: &T) -> Option<usize>
-    ensures { First (λ y. (λ r'. r' ≡ eq y x.now)) items.now result }
+    ensures { First (λ y r. r ≡ T.eq y x.now) items.now result }
 {
     for (i, item) in items.iter().enumerate() {
         if item == x {

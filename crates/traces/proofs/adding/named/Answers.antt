@@ -13,8 +13,8 @@ loop-entry-preserved c =
     let t : reach thread_reach (drop i es) ≡ max ((get_or es i d).thread + 1) (reach thread_reach (drop (i + 1) es)) = at_drop_more (reach thread_reach) es i d (omega arith) in
     let a : reach address_reach (drop i es) ≡ max (address_reach (get_or es i d)) (reach address_reach (drop (i + 1) es)) = at_drop_more (reach address_reach) es i d (omega arith) in
     let m : c.larger-threads.result ≡ max c.loop-entry.threads ((get_or es i d).thread + 1) = c.larger-threads.ensures in
-    let r : c.address-reach.result ≡ address_reach (get_or es i d) = c.address-reach.ensures in
-    let q : c.larger-addresses.result ≡ max c.loop-entry.addresses c.address-reach.result = c.larger-addresses.ensures in
+    let r : c.address_reach.result ≡ address_reach (get_or es i d) = c.address_reach.ensures in
+    let q : c.larger-addresses.result ≡ max c.loop-entry.addresses c.address_reach.result = c.larger-addresses.ensures in
     (omega (arith, c.loop-entry.invariant.0), omega (arith, c.loop-entry.invariant.1))
 
 pub returns : goal.returns

@@ -20,8 +20,8 @@ module _ (c : After-truncate-3) where
   entries_now : vec_items c.truncate.new.self ≡ take c.args.len es
   entries_now = c.truncate.ensures.items
 
-  seen : c.as-slice.result.now ≡ take c.args.len es
-  seen = c.as-slice.ensures.value ∙ entries_now
+  seen : c.as_slice.result.now ≡ take c.args.len es
+  seen = c.as_slice.ensures.value ∙ entries_now
 
   threads_now : vec_items c.truncate-2.new.self ≡ fewer_threads ts ds es (held c.args.self.now) c.args.len
   threads_now = c.truncate-2.ensures.items ∙ ap (λ n. take n ts) (c.named-threads.ensures.threads ∙ ap (reach thread_reach) seen)
@@ -32,33 +32,21 @@ module _ (c : After-truncate-3) where
   held_now : Held (vec_items c.truncate-2.new.self) (vec_items c.truncate-3.new.self) (vec_items c.truncate.new.self)
   held_now = held_at _ _ _ _ _ _ threads_now addresses_now entries_now (held_fewer ts ds es (held c.args.self.now) c.args.len)
 
-pub invariant-of-self : goal.invariant-of-self
-invariant-of-self c =
-    let h = held_now c in (
-      omega arith,
-      (
-        omega arith,
-        (
-          omega arith,
-          (
-            (omega arith, omega arith, omega arith),
-            (
-              h.distinct_t,
-              (
-                h.distinct_d,
-                (
-                  subst (λ n. ThreadsNamed n (vec_items c.truncate.new.self)) (sym c.truncate-2.new.self.ok.0) h.named_t,
-                  (
-                    subst (λ n. AddressesNamed n (vec_items c.truncate.new.self)) (sym c.truncate-3.new.self.ok.0) h.named_d,
-                    (h.plain, (h.appear_t, (h.appear_d, tt))),
-                  ),
-                ),
-              ),
-            ),
-          ),
-        ),
-      ),
-    )
+pub invariant_of-self : goal.invariant_of-self
+invariant_of-self c =
+    let h = held_now c in record {
+      few_entries = omega arith;
+      few_threads = omega arith;
+      few_addresses = omega arith;
+      room = (omega arith, omega arith, omega arith);
+      distinct_threads = h.distinct_t;
+      distinct_addresses = h.distinct_d;
+      threads_named = subst (λ n. ThreadsNamed n (vec_items c.truncate.new.self)) (sym c.truncate-2.new.self.ok.0) h.named_t;
+      addresses_named = subst (λ n. AddressesNamed n (vec_items c.truncate.new.self)) (sym c.truncate-3.new.self.ok.0) h.named_d;
+      plain = h.plain;
+      threads_appear = h.appear_t;
+      addresses_appear = h.appear_d;
+    }
 
 pub returns : goal.returns
 returns c =

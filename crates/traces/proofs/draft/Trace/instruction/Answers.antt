@@ -7,23 +7,23 @@ use Rattle.traces.specs.Stated.{stated_by}
 use Rattle.traces.proofs.Stating.{nth_within}
 use Rattle.traces.proofs.draft.Trace.instruction.Goals as goal
 
-pub returns-in-err-entry : goal.returns-in-err-entry
-returns-in-err-entry c =
+pub returns-in_err-entry : goal.returns-in_err-entry
+returns-in_err-entry c =
     let held = c.args.self.now.contents in
     let f = stated_by (vec_items held.threads) (vec_items held.addresses) in
-    c.from-residual.ensures ∙ sym (slice_get-map f (vec_items held.entries) c.args.at ∙ ap (option_map f) (sym c.entry.ensures ∙ c.in-err-entry.was))
+    c.from_residual.ensures ∙ sym (slice_get-map f (vec_items held.entries) c.args.at ∙ ap (option_map f) (sym c.entry.ensures ∙ c.in_err-entry.was))
 
 pub returns : goal.returns
 returns c =
     let held = c.args.self.now.contents in
     let f = stated_by (vec_items held.threads) (vec_items held.addresses) in
-    ap Some c.instruction-of.ensures ∙ sym (slice_get-map f (vec_items held.entries) c.args.at ∙ ap (option_map f) (sym c.entry.ensures ∙ c.in-ok-entry.was))
+    ap Some c.instruction_of.ensures ∙ sym (slice_get-map f (vec_items held.entries) c.args.at ∙ ap (option_map f) (sym c.entry.ensures ∙ c.in_ok-entry.was))
 
-pub instruction-of-requires : goal.instruction-of-requires
-instruction-of-requires c =
+pub instruction_of-requires : goal.instruction_of-requires
+instruction_of-requires c =
     let held = c.args.self.now.contents in
-    let e = c.in-ok-entry.entry in
-    let at = nth_within (vec_items held.entries) c.args.at e (sym c.entry.ensures ∙ c.in-ok-entry.was) in (
+    let e = c.in_ok-entry.entry in
+    let at = nth_within (vec_items held.entries) c.args.at e (sym c.entry.ensures ∙ c.in_ok-entry.was) in (
       subst (λ (x : Entry). x.thread < vec_len held.threads) at.1 (held.threads_named c.args.at e at.0),
       subst (λ (x : Entry). addressed x.kind ≡ true → x.address < vec_len held.addresses) at.1 (held.addresses_named c.args.at e at.0),
     )
