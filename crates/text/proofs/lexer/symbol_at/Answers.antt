@@ -2,7 +2,7 @@ use Rattle.std.proofs.Common.{arith, rules}
 use Rattle.std.proofs.lemmas.List.{get_or_past, take_rest}
 use Rattle.std.proofs.lemmas.Bool.Decides.{nat_tests}
 use Rattle.text.proofs.lexer.symbol_at.Goals as goal
-use Rattle.text.proofs.lexer.symbol_at.Goals.{in-default-via-then-bytes-lt1, in-default-via-else-bytes-lt1+then-bytes-lt2+in-default·, in-default-via-else-bytes-lt1+else-bytes-lt2+then-bytes-lt4+in-61·+in-default·, in-default-via-else-bytes-lt1+else-bytes-lt2+then-bytes-lt4+in-default·, in-default-via-else-bytes-lt1+else-bytes-lt2+else-bytes-lt4+in-61·+in-default·, in-default-via-else-bytes-lt1+else-bytes-lt2+else-bytes-lt4+in-115·+in-121·+in-110·+in-default·, in-default-via-else-bytes-lt1+else-bytes-lt2+else-bytes-lt4+in-115·+in-121·+in-default·, in-default-via-else-bytes-lt1+else-bytes-lt2+else-bytes-lt4+in-115·+in-default·, in-default-via-else-bytes-lt1+else-bytes-lt2+else-bytes-lt4+in-default·}
+use Rattle.text.proofs.lexer.symbol_at.Goals.{in_default-via-then-bytes-lt1, in_default-via-else-bytes-lt1+then-bytes-lt2+in_default·, in_default-via-else-bytes-lt1+else-bytes-lt2+then-bytes-lt4+in-61·+in_default·, in_default-via-else-bytes-lt1+else-bytes-lt2+then-bytes-lt4+in_default·, in_default-via-else-bytes-lt1+else-bytes-lt2+else-bytes-lt4+in-61·+in_default·, in_default-via-else-bytes-lt1+else-bytes-lt2+else-bytes-lt4+in-115·+in-121·+in-110·+in_default·, in_default-via-else-bytes-lt1+else-bytes-lt2+else-bytes-lt4+in-115·+in-121·+in_default·, in_default-via-else-bytes-lt1+else-bytes-lt2+else-bytes-lt4+in-115·+in_default·, in_default-via-else-bytes-lt1+else-bytes-lt2+else-bytes-lt4+in_default·}
 
 pub returns-in-115 : goal.returns-in-115
 returns-in-115 c = record { is = search rules; rest = take_rest c.args.bytes.now 4; within = search rules }
@@ -34,23 +34,23 @@ returns-in-59 c = record { is = search rules; rest = take_rest c.args.bytes.now 
 pub returns-in-58-2 : goal.returns-in-58-2
 returns-in-58-2 c = let p = get_or_past c.args.bytes.now 1 0 in record { is = grind (arith, nat_tests); rest = take_rest c.args.bytes.now 1; within = search rules }
 
-pub returns-in-default : goal.returns-in-default
-returns-in-default c =
+pub returns-in_default : goal.returns-in_default
+returns-in_default c =
     let past-0 = get_or_past c.args.bytes.now 0 0 in
     let past-1 = get_or_past c.args.bytes.now 1 0 in
     let past-3 = get_or_past c.args.bytes.now 3 0 in
     record {
       is =
-          elim c.in-default.branch [
-            | in-default-via-then-bytes-lt1 w ↦ grind (arith, nat_tests)
-            | in-default-via-else-bytes-lt1+then-bytes-lt2+in-default· w ↦ grind (arith, nat_tests)
-            | in-default-via-else-bytes-lt1+else-bytes-lt2+then-bytes-lt4+in-61·+in-default· w ↦ grind (arith, nat_tests)
-            | in-default-via-else-bytes-lt1+else-bytes-lt2+then-bytes-lt4+in-default· w ↦ grind (arith, nat_tests)
-            | in-default-via-else-bytes-lt1+else-bytes-lt2+else-bytes-lt4+in-61·+in-default· w ↦ grind (arith, nat_tests)
-            | in-default-via-else-bytes-lt1+else-bytes-lt2+else-bytes-lt4+in-115·+in-121·+in-110·+in-default· w ↦ grind (arith, nat_tests)
-            | in-default-via-else-bytes-lt1+else-bytes-lt2+else-bytes-lt4+in-115·+in-121·+in-default· w ↦ grind (arith, nat_tests)
-            | in-default-via-else-bytes-lt1+else-bytes-lt2+else-bytes-lt4+in-115·+in-default· w ↦ grind (arith, nat_tests)
-            | in-default-via-else-bytes-lt1+else-bytes-lt2+else-bytes-lt4+in-default· w ↦ grind (arith, nat_tests)
+          elim c.in_default.branch [
+            | in_default-via-then-bytes-lt1 w ↦ grind (arith, nat_tests)
+            | in_default-via-else-bytes-lt1+then-bytes-lt2+in_default· w ↦ grind (arith, nat_tests)
+            | in_default-via-else-bytes-lt1+else-bytes-lt2+then-bytes-lt4+in-61·+in_default· w ↦ grind (arith, nat_tests)
+            | in_default-via-else-bytes-lt1+else-bytes-lt2+then-bytes-lt4+in_default· w ↦ grind (arith, nat_tests)
+            | in_default-via-else-bytes-lt1+else-bytes-lt2+else-bytes-lt4+in-61·+in_default· w ↦ grind (arith, nat_tests)
+            | in_default-via-else-bytes-lt1+else-bytes-lt2+else-bytes-lt4+in-115·+in-121·+in-110·+in_default· w ↦ grind (arith, nat_tests)
+            | in_default-via-else-bytes-lt1+else-bytes-lt2+else-bytes-lt4+in-115·+in-121·+in_default· w ↦ grind (arith, nat_tests)
+            | in_default-via-else-bytes-lt1+else-bytes-lt2+else-bytes-lt4+in-115·+in_default· w ↦ grind (arith, nat_tests)
+            | in_default-via-else-bytes-lt1+else-bytes-lt2+else-bytes-lt4+in_default· w ↦ grind (arith, nat_tests)
           ];
       rest = tt;
       within = tt;
