@@ -3,7 +3,7 @@ use Rattle.text.proofs.Moving.{line_le, line_rest, line_behind}
 use Rattle.text.proofs.reader.Reader.new.Goals as goal
 
 pub invariant_of-result : goal.invariant_of-result
-invariant_of-result c = let le = line_le c.args.text.now in (c.requires, ((omega arith, omega arith), ((omega arith, omega arith), tt)))
+invariant_of-result c = let le = line_le c.args.text.now in record { short = c.requires; within = (omega arith, omega arith); counted = (omega arith, omega arith) }
 
 pub returns : goal.returns
 returns c =

@@ -14,7 +14,7 @@ invariant_of-self-2 c =
     let r = c.args.self.now in
     let le = line_le (drop (r.line_end + 1) r.text.now) in
     let l = length-drop (r.line_end + 1) r.text.now in
-    (omega arith, ((omega arith, omega arith), ((omega arith, omega arith), tt)))
+    record { short = omega arith; within = (omega arith, omega arith); counted = (omega arith, omega arith) }
 
 pub returns : goal.returns
 returns c =
