@@ -123,10 +123,10 @@ module _ (bs : List ℕ) (n : ℕ) where
 
   -- where nothing but a number is wanted, some number fits
   number_fits : (w : Want) (f : Fields) (a : At) (r : Reached bs n w f a) → Numeric w → NumberFits r.before
-  number_fits w f a r only-numbers =
+  number_fits w f a r only_numbers =
       let c = completed w r.written r.small in
       let s = r.onward c.0 c.1 in
-      go c.0 (only-numbers r.written c.0 c.1) s.0 s.1
+      go c.0 (only_numbers r.written c.0 c.1) s.0 s.1
     where
       go : (ts : List Tok) → NumberFirst ts → (i : Instruction) → States (r.before ++ ts) i → NumberFits r.before
       go [] z i s = absurd z
@@ -135,7 +135,7 @@ module _ (bs : List ℕ) (n : ℕ) where
       go (ends ∷ ts) z i s = absurd z
       go (unknown ∷ ts) z i s = absurd z
 
-  module _ {X : Type 0} (w : Want) (p : Fields → ℕ → ℕ → Result Fields Cause) (k : Fields → At → Result X Fault) (only-numbers : Numeric w)
+  module _ {X : Type 0} (w : Want) (p : Fields → ℕ → ℕ → Result Fields Cause) (k : Fields → At → Result X Fault) (only_numbers : Numeric w)
       (goes_on : (f : Fields) (a : At) → Reached bs n w f a → (ds : List ℕ) → next_token a ≡ number ds → Small ds → (e : Fault) →
       and_then (placed (skipped a) (p f (skipped a).column (denoted 0 ds))) (λ g. k g (past a)) ≡ Err e → Refused e) where
     -- at a number, where it is known how one of 64 bits goes on
@@ -143,14 +143,14 @@ module _ (bs : List ℕ) (n : ℕ) where
     faults_number f a r e = go (next_token a) refl
       where
         wrong : (t : Tok) → next_token a ≡ t → (NumberFirst (t ∷ []) → ⊥) → LineFault bs Misfit (skipped a).column
-        wrong t q z = misfits r (λ ts l h. z (like_number t ts (subst (λ u. Like u ts) q l) (only-numbers r.written ts h)))
+        wrong t q z = misfits r (λ ts l h. z (like_number t ts (subst (λ u. Like u ts) q l) (only_numbers r.written ts h)))
 
         sized : (ds : List ℕ) → next_token a ≡ number ds → (b : Bool) → ltb (denoted 0 ds) (2 ^ 64) ≡ b →
             and_then (placed (skipped a) (and_then (or_too_large (cond b (Some (denoted 0 ds)) None)) (p f (skipped a).column))) (λ g. k g (past a)) ≡ Err e → Refused e
         sized ds q true l h = goes_on f a r ds q (token_digits (skipped a).rest ds q, refl, ltb-true (denoted 0 ds) (2 ^ 64) l) e h
         sized ds q false l h =
             refused_at a TooLarge r.line_is
-            (too_large r.before (skipped a).rest (skipped a).column (leads_here r) (column_here r) (number_fits w f a r only-numbers) ds (past a).rest (token_number (skipped a).rest ds q) (ltb-false (denoted 0 ds) (2 ^ 64) l)) e h
+            (too_large r.before (skipped a).rest (skipped a).column (leads_here r) (column_here r) (number_fits w f a r only_numbers) ds (past a).rest (token_number (skipped a).rest ds q) (ltb-false (denoted 0 ds) (2 ^ 64) l)) e h
 
         go : (t : Tok) → next_token a ≡ t → and_then (placed (skipped a) (and_then (number_in t) (p f (skipped a).column))) (λ g. k g (past a)) ≡ Err e → Refused e
         go (number ds) q h = sized ds q (ltb (denoted 0 ds) (2 ^ 64)) refl h

@@ -1,5 +1,5 @@
 -- The token at a place of a line, found from the bytes that stand there.
-use Rattle.std.specs.Prelude.{ℕ, ◌+◌, Bool, cond, List, length, take, drop, Some, None, Option, ◌==◌, nat_eq, nat_lt, slice_index}
+use Rattle.std.specs.Prelude.{ℕ, ◌+◌, Bool, cond, List, length, take, drop, Some, None, Option, ◌==◌, nat_lt, slice_index}
 use Rattle.std.specs.Char.{is_ascii_digit}
 use Rattle.std.specs.List.{prefix_len}
 use Rattle.text.specs.declared.token.Symbol.{Symbol}
@@ -12,7 +12,7 @@ digits bs = prefix_len is_ascii_digit bs
 
 -- how many spaces stand at the front
 abbrev pub spaces : List ℕ → ℕ
-spaces bs = prefix_len (λ b. nat_eq b 32) bs
+spaces bs = prefix_len (λ b. b == 32) bs
 
 -- whether bs has b at the place i; no symbol has the byte 0, which is read past the end
 abbrev pub has : List ℕ → ℕ → ℕ → Bool

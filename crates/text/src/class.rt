@@ -25,7 +25,7 @@ impl ByteClass for Digit {
 pub struct Space;
 
 impl ByteClass for Space {
-    ghost member = { λ b. (b == 32) };
+    ghost member = { λ b. b == 32 };
 
     fn has(byte: u8) -> bool {
         byte == b' '

@@ -1,7 +1,7 @@
 // Lines and tokens from bytes.
 ghost use Rattle.std.specs.Prelude.{◌≡◌, ◌+◌, ◌<◌, ◌≤◌, length, drop, IfSome, ◌==◌};
 ghost use Rattle.std.specs.Option.{option_map};
-ghost use Rattle.std.specs.List.{prefix_len as leadingBytes};
+ghost use Rattle.std.specs.List.{prefix_len};
 ghost use Rattle.text.specs.Lines.{is_end};
 ghost use Rattle.text.specs.Places.{SameLine, Starts, at, behind, first_line, left, tok};
 ghost use Rattle.text.specs.Tokens.{next_token, on, past, skipped, symbol_at, symbol_width, token, width};
@@ -14,7 +14,7 @@ use traces::first_equal;
 // How many bytes of a class `bytes` begins with.
 fn leading<C: ByteClass>(bytes: &[u8]) -> usize
     ensures within { result ≤ length bytes.now }
-    ensures count { result ≡ leadingBytes C.ByteClass.member bytes.now }
+    ensures count { result ≡ prefix_len C.member bytes.now }
 {
     let mut n = 0;
     while n < bytes.len() && C::has(bytes[n]) {
