@@ -1,7 +1,7 @@
 -- Numbers from digits, as a loop reads them.
-use Rattle.std.proofs.Common.{◌≡◌, ℕ, ◌+◌, ◌-◌, ◌*◌, ◌^◌, ◌<◌, ◌≤◌, List, [], ◌∷◌, length, get_or, drop, Some, None, sym, ap, ◌∙◌, arith}
-use Rattle.std.proofs.lemmas.List.{at_drop_more, at_drop_all}
-use Rattle.std.proofs.lemmas.Bool.{cond-true, cond-false, lt-ltb, le-ltb}
+use Rattle.std.proofs.Common.{◌≡◌, ℕ, ◌+◌, ◌-◌, ◌*◌, ◌^◌, ◌<◌, ◌≤◌, List, [], ◌∷◌, length, get_or, drop, None, sym, ◌∙◌, arith}
+use Rattle.std.proofs.lemmas.List.{at_drop_more}
+use Rattle.std.proofs.lemmas.Bool.{cond-false, le-ltb}
 use Rattle.text.specs.Grammar.{denoted}
 use Rattle.text.specs.Lines.{value_of}
 
@@ -20,9 +20,3 @@ module _ (ds : List ℕ) (n i : ℕ) (so_far : denoted n (drop i ds) ≡ denoted
       let more = decimal_more l in
       let ge = decimal_ge (n * 10 + (get_or ds i 0 - 48)) (drop (i + 1) ds) in
       sym (cond-false _ _ _ (le-ltb (denoted 0 ds) (2 ^ 64) (omega arith)))
-
-  -- no digit is left
-  pub decimal_all : length ds ≤ i → n < 2 ^ 64 → Some n ≡ value_of ds
-  decimal_all l small =
-      let e : n ≡ denoted 0 ds = sym (at_drop_all (denoted n) ds i l) ∙ so_far in
-      ap Some e ∙ sym (cond-true _ _ _ (lt-ltb (denoted 0 ds) (2 ^ 64) (omega arith)))

@@ -1,14 +1,9 @@
 -- A reader that moves: within its line, and on to the next.
-use Rattle.std.proofs.Common.{◌≡◌, ℕ, zero, suc, ◌+◌, ◌-◌, ◌<◌, ◌≤◌, Bool, true, false, cond, eqb, ltb, leb, List, [], ◌∷◌, length, get_or, take, drop, Some, None, Option, sym, refl, ap, ◌∙◌, subst, ⊎_elim, add-one, arith}
-use Rattle.std.proofs.lemmas.List.Sums.{prefix_len-le-length}
+use Rattle.std.proofs.Common.{◌≡◌, ℕ, zero, suc, ◌+◌, ◌-◌, ◌<◌, ◌≤◌, Bool, true, false, cond, eqb, List, [], ◌∷◌, length, get_or, take, drop, Some, None, sym, refl, ap, ◌∙◌, subst, add-one, arith}
 use Rattle.std.proofs.lemmas.List.{drop-drop, drop_all, drop-take, length-drop, take_rest}
-use Rattle.std.proofs.lemmas.Bool.{cond-true, cond-false, cases_Bool, cases_eq, cases_lt, eq-eqb, eqb-true, eqb-false, ne_eqb, le-leb, lt-leb}
+use Rattle.std.proofs.lemmas.Bool.{cond-true, cond-false, eq-eqb, eqb-true, eqb-false, ne_eqb}
 use Rattle.traces.specs.First.{First}
-use Rattle.text.specs.declared.token.Symbol.{Symbol}
-use Rattle.text.specs.Lines.{is_end}
 use Rattle.text.specs.Places.{first_line, behind_first}
-use Rattle.text.specs.Tokens.{or_unknown, token, digits, spaces, symbol_at}
-use Rattle.text.specs.Grammar.{number}
 
 -- the first line feed ends the first line
 pub line_found : (bs : List ℕ) (i : ℕ) → i < length bs → get_or bs i 0 ≡ 10 → ((k : ℕ) → k < i → get_or bs k 0 ≡ 10 → ⊥) → length (first_line bs) ≡ i
@@ -85,41 +80,6 @@ line_behind t place end e =
     let same : end + 1 ≡ place + (length (first_line (drop place t)) + 1) = omega arith in
     ap (λ n. drop n t) same ∙ sym (drop-drop (length (first_line (drop place t)) + 1) place t) ∙ drop_behind (drop place t)
 
--- the end of a text is the end of what is left of it
-pub none_left : (t : List ℕ) (place : ℕ) → leb (length t) place ≡ eqb (length (drop place t)) 0
-none_left t place =
-    let l = length-drop place t in
-    ⊎_elim
-    (λ inside. lt-leb (length t) place inside ∙ sym (ne_eqb (length (drop place t)) 0 (λ z. absurd (omega arith))))
-    (λ past. le-leb (length t) place past ∙ sym (eq-eqb (length (drop place t)) 0 (omega arith)))
-    (cases_lt place (length t))
-
 -- nothing is left behind a text
 pub drop_past : (t : List ℕ) (n : ℕ) → length t ≤ n → (drop n t ≡ drop (n + 1) t) × (length (drop (n + 1) t) ≡ 0)
 drop_past t n h = (drop_all n t h ∙ sym (drop_all (n + 1) t (omega arith)), ap length (drop_all (n + 1) t (omega arith)))
-
-symbol_no_end : (o : Option Symbol) → is_end (or_unknown o) ≡ false
-symbol_no_end None = refl
-symbol_no_end (Some s) = refl
-
-number_no_end : (b : Bool) (ds : List ℕ) (o : Option Symbol) → is_end (cond b (number ds) (or_unknown o)) ≡ false
-number_no_end true ds o = refl
-number_no_end false ds o = symbol_no_end o
-
--- only where nothing is left there is no token
-pub end_none : (bs : List ℕ) → is_end (token bs) ≡ eqb (length bs) 0
-end_none bs =
-    ⊎_elim
-    (λ t. ap is_end (cond-true _ _ _ t) ∙ sym t)
-    (λ f. ap is_end (cond-false _ _ _ f) ∙ number_no_end (ltb 0 (digits bs)) (take (digits bs) bs) (symbol_at bs) ∙ sym f)
-    (cases_Bool (eqb (length bs) 0))
-
--- a line is blank where it has as many spaces in front as bytes
-pub blank_end : (bs : List ℕ) → eqb (spaces bs) (length bs) ≡ is_end (token (drop (spaces bs) bs))
-blank_end bs =
-    let le = prefix_len-le-length (λ b. eqb b 32) bs in
-    let l = length-drop (spaces bs) bs in
-    ⊎_elim
-    (λ same. eq-eqb (spaces bs) (length bs) same ∙ sym (end_none (drop (spaces bs) bs) ∙ eq-eqb (length (drop (spaces bs) bs)) 0 (omega arith)))
-    (λ apart. ne_eqb (spaces bs) (length bs) apart ∙ sym (end_none (drop (spaces bs) bs) ∙ ne_eqb (length (drop (spaces bs) bs)) 0 (λ z. apart (omega arith))))
-    (cases_eq (spaces bs) (length bs))

@@ -115,6 +115,7 @@ impl<'a> Reader<'a> {
     }
 
     // Goes `count` bytes on in the line.
+    #[tactic(auto, using(crate::proofs::Moving::take_moved))]
     fn advance(&mut self, count: usize)
         requires { self.old.place + count ≤ self.old.line_end }
         ensures at { at self.new ≡ on count (at self.old) }

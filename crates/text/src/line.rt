@@ -20,6 +20,7 @@ const NO_FIELDS: Fields = Fields {
 };
 
 // The number that digits denote, where it fits in 64 bits.
+#[tactic(auto, using(crate::proofs::Decimals::decimal_large))]
 fn value_of(digits: &[u8]) -> Option<u64>
     ensures { result ≡ value_of digits.now }
 {
@@ -123,6 +124,7 @@ impl Located<'_> {
 
 impl Reader<'_> {
     // Reads the parts of a form, one token each.
+    #[tactic(auto, using(crate::proofs::Parting::parts_more, crate::proofs::Parting::parts_all))]
     fn parts(&mut self, form: &[Part], start: Fields) -> Result<Fields, Fault>
         ensures gives { Gives (parts form.now start (at self.old)) result (at self.new) }
         ensures kept { SameLine self.old self.new }
