@@ -1,6 +1,7 @@
 -- The first fault of a text is the one that reading answers.
 use Rattle.std.proofs.Common.{◌≡◌, ℕ, ◌+◌, List, [], ◌∷◌, ◌++◌, length, Some, None, Ok, Err, Option, Result, sym, refl, ap, ◌∙◌, subst, inl, inr, arith}
 use Rattle.std.proofs.lemmas.List.{append-nil}
+use Rattle.std.proofs.lemmas.List.Elements.{All-nil}
 use Rattle.std.proofs.lemmas.Bool.{cond-true, cond-false, lt-ltb, le-ltb}
 use Rattle.traces.specs.declared.entry.Instruction.{Instruction}
 use Rattle.traces.specs.declared.entry.Refusal.{Refusal}
@@ -92,7 +93,7 @@ first_found before n bs rest f u over some h =
 pub lines_found : (before : List Instruction) (n : ℕ) (bs : List ℕ) (f : Fault) → TextFault before n bs f → lines_read n before (lines_of bs) ≡ Err f
 unfolding lines_read
 lines_found before n bs f (in_line _ _ cs rest cause column u over some p) =
-    first_found before n cs rest f u over (λ e. some (subst Spaces (sym e) tt)) (ap (λ r. and_then r (entered n before)) (line_refused n cs cause column some p))
+    first_found before n cs rest f u over (λ e. some (subst Spaces (sym e) (All-nil (λ b. b ≡ 32)))) (ap (λ r. and_then r (entered n before)) (line_refused n cs cause column some p))
 lines_found before n bs f (refused _ _ cs rest i e column u over l h p) =
     first_found before n cs rest f u over (line_nonempty cs i l) (refusal_found n cs before i e column l h p)
 lines_found before n bs f (later _ _ cs rest is after _ u l h t) =

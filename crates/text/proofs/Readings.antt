@@ -2,6 +2,7 @@
 use Rattle.std.proofs.Common.{◌≡◌, ℕ, ◌+◌, Bool, true, false, cond, ltb, ◌⊎◌, List, [], ◌∷◌, ◌++◌, length, Some, None, Ok, Err, Option, Result, sym, refl, ap, ◌∙◌, subst, inl, inr}
 use Rattle.std.specs.List.{flat_map}
 use Rattle.std.proofs.lemmas.List.{append-nil}
+use Rattle.std.proofs.lemmas.List.Elements.{All-nil}
 use Rattle.std.proofs.lemmas.Bool.{cond-true, cond-false, le-ltb, ltb-false}
 use Rattle.traces.specs.declared.entry.Instruction.{Instruction}
 use Rattle.traces.specs.declared.entry.Kind.{Kind}
@@ -20,7 +21,7 @@ use Rattle.text.specs.Faults.{Readable}
 use Rattle.text.proofs.Fits.{values, no_ok, ok_same, then_ok, then_then, then_same, Closed, closed_end, parts_fit, fit_parts}
 use Rattle.text.proofs.Forms.{form_parts, body_parts, stated, fit_states, states_fit, line_form, line_end, form_line}
 use Rattle.text.proofs.Gaps.{tokens_none, tokens_end}
-use Rattle.text.proofs.Splitting.{Unbroken, Splits, no_line, one_line, line_and, splits, lines_one, lines_more}
+use Rattle.text.proofs.Splitting.{Unbroken, unbroken_nil, Splits, no_line, one_line, line_and, splits, lines_one, lines_more}
 
 -- each form ends with the line's end
 form_closed : (k : Kind) → Closed Thread (Fixed Colon ∷ body_parts k)
@@ -97,7 +98,7 @@ Stated before bs after = (is : List Instruction) × (Text bs is × (admitted_all
 -- lines that were read make a text of the format, and what it states could be added
 lines_from : (n : ℕ) (before : List Instruction) (bs : List ℕ) (ls : List (List ℕ)) (after : List Instruction) → Splits bs ls → lines_read n before ls ≡ Ok after → Stated before bs after
 unfolding lines_read
-lines_from n before bs ls after no_line h = ([], (last_line tt (blank tt), ap Ok (ok_same before after h)))
+lines_from n before bs ls after no_line h = ([], (last_line unbroken_nil (blank (All-nil (λ b. b ≡ 32))), ap Ok (ok_same before after h)))
 lines_from n before bs ls after (one_line u) h =
     let k = then_ok (line_read n before bs) (λ js. Ok js) after h in
     let l = line_of_reading n before bs after (k.1 ∙ k.2) in

@@ -1,6 +1,6 @@
 -- A line has one first fault, and a line of the format has none.
-use Rattle.std.proofs.Common.{◌≡◌, ℕ, ◌+◌, ◌^◌, ◌<◌, true, cond, ltb, ◌⊎◌, List, [], ◌∷◌, ◌++◌, map, length, sym, refl, ap, ◌∙◌, subst, inl, inr, arith}
-use Rattle.std.specs.List.{AllByRecursion as All}
+use Rattle.std.proofs.Common.{◌≡◌, ℕ, ◌+◌, ◌^◌, ◌<◌, true, cond, ltb, ◌⊎◌, List, [], ◌∷◌, ◌++◌, map, length, All, sym, refl, ap, ◌∙◌, subst, inl, inr, arith}
+use Rattle.std.proofs.lemmas.List.Elements.{All-nil, All-cons, All-head, All-tail}
 use Rattle.std.proofs.lemmas.List.{append-nil, append_assoc}
 use Rattle.std.proofs.lemmas.Bool.{cond-true, cond-false, lt-ltb, le-ltb}
 use Rattle.traces.specs.declared.entry.Instruction.{Instruction}
@@ -24,8 +24,8 @@ viable_next ts t us v = viable_front (ts ++ t ∷ []) us (subst Viable (sym (app
 
 -- what holds of all elements holds of one between others
 all_between : {X : Type 0} (P : X → Type 0) (xs : List X) (y : X) (ys : List X) → All P (xs ++ y ∷ ys) → P y
-all_between P [] y ys a = a.0
-all_between P (x ∷ xs) y ys a = all_between P xs y ys a.1
+all_between P [] y ys a = All-head P y ys a
+all_between P (x ∷ xs) y ys a = all_between P xs y ys (All-tail P x (xs ++ y ∷ ys) a)
 
 -- a number has 64 bits
 abbrev Sized : Tok → Type 0
@@ -36,12 +36,12 @@ Sized unknown = Unit {0}
 
 -- the numbers of what is wanted have 64 bits
 follows_sized : {w : Want} {ad : List ℕ} {ts : List Tok} → Follows w ad ts → All Sized ts
-follows_sized at_end = tt
-follows_sized (any_number l h) = (l.2, follows_sized h)
-follows_sized (new_number l h) = (l.2, follows_sized h)
-follows_sized (same_number l h) = (subst (λ n. n < 2 ^ 64) (sym l.1) l.2, follows_sized h)
-follows_sized (the_symbol h) = (tt, follows_sized h)
-follows_sized (first h) = (tt, follows_sized h)
+follows_sized at_end = All-nil Sized
+follows_sized (any_number l h) = All-cons Sized _ _ l.2 (follows_sized h)
+follows_sized (new_number l h) = All-cons Sized _ _ l.2 (follows_sized h)
+follows_sized (same_number l h) = All-cons Sized _ _ (subst (λ n. n < 2 ^ 64) (sym l.1) l.2) (follows_sized h)
+follows_sized (the_symbol h) = All-cons Sized _ _ tt (follows_sized h)
+follows_sized (first h) = All-cons Sized _ _ tt (follows_sized h)
 follows_sized (second h) = follows_sized h
 
 -- a number with which some line goes on has 64 bits
@@ -157,8 +157,8 @@ IsFixed unknown = ⊥
 
 -- symbols are symbols
 all_fixed : (ss : List Symbol) → All IsFixed (map fixed ss)
-all_fixed [] = tt
-all_fixed (s ∷ ss) = (tt, all_fixed ss)
+all_fixed [] = All-nil IsFixed
+all_fixed (s ∷ ss) = All-cons IsFixed (fixed s) (map fixed ss) tt (all_fixed ss)
 
 -- tokens with symbols alone behind the thread number do not go on with a second number
 no_second : (t u : Tok) (ss : List Symbol) (us : List Tok) (rest ds more : List ℕ) → Begins rest (number ds) more → Onward (t ∷ us) rest (u ∷ map fixed ss) → ⊥

@@ -1,5 +1,7 @@
 -- The format as a tree: what can stand next on a line, from each place on.
-use Rattle.std.proofs.Common.{ℕ, List, [], ◌∷◌, sym, refl, subst, lit<}
+use Rattle.std.proofs.Common.{◌≡◌, ℕ, true, List, [], ◌∷◌, sym, refl, subst, lit<}
+use Rattle.std.specs.Char.{is_ascii_digit}
+use Rattle.std.proofs.lemmas.List.Elements.{All-nil, All-cons}
 use Rattle.traces.specs.declared.entry.Instruction.{Instruction}
 use Rattle.text.specs.declared.token.Symbol.{Symbol}
 use Rattle.text.specs.declared.token.Symbol.TheVariants.{Assign, Equals, Memory, Less, Sync}
@@ -37,7 +39,7 @@ naught = 48 ∷ []
 
 -- they are a run of digits, and 0 has 64 bits
 pub naught_small : Small naught
-naught_small = (a_number (lit< tt) (refl, tt), refl, lit< tt)
+naught_small = (a_number (lit< tt) (All-cons (λ b. is_ascii_digit b ≡ true) 48 [] refl (All-nil (λ b. is_ascii_digit b ≡ true))), refl, lit< tt)
 
 -- something always fits what is wanted
 pub completed : (w : Want) (ad : List ℕ) → Small ad → (ts : List Tok) × Follows w ad ts
