@@ -1,8 +1,8 @@
 -- A reader that moves: within its line, and on to the next.
-use Rattle.std.proofs.Common.{◌≡◌, ℕ, zero, suc, ◌+◌, ◌-◌, ◌<◌, ◌≤◌, Bool, true, false, cond, eqb, ltb, leb, List, [], ◌∷◌, length, get_or, take, drop, Some, None, Decides, Option, sym, refl, ap, ◌∙◌, subst, ⊎_elim, add-one, arith}
+use Rattle.std.proofs.Common.{◌≡◌, ℕ, zero, suc, ◌+◌, ◌-◌, ◌<◌, ◌≤◌, Bool, true, false, cond, eqb, ltb, leb, List, [], ◌∷◌, length, get_or, take, drop, Some, None, Option, sym, refl, ap, ◌∙◌, subst, ⊎_elim, add-one, arith}
 use Rattle.std.proofs.lemmas.List.Sums.{prefix_len-le-length}
 use Rattle.std.proofs.lemmas.List.{drop-drop, drop_all, drop-take, length-drop, take_rest}
-use Rattle.std.proofs.lemmas.Bool.{cond-true, cond-false, cases_Bool, cases_eq, cases_lt, eq-eqb, ne_eqb, le-leb, lt-leb, both_ways}
+use Rattle.std.proofs.lemmas.Bool.{cond-true, cond-false, cases_Bool, cases_eq, cases_lt, eq-eqb, eqb-true, eqb-false, ne_eqb, le-leb, lt-leb}
 use Rattle.traces.specs.First.{First}
 use Rattle.text.specs.declared.token.Symbol.{Symbol}
 use Rattle.text.specs.Lines.{is_end}
@@ -23,18 +23,18 @@ line_whole [] h = refl
 line_whole (b ∷ bs) h = ap length (cond-false _ _ _ (ne_eqb b 10 (h 0 (omega arith)))) ∙ ap suc (line_whole bs (λ k l. h (suc k) (omega arith)))
 
 -- the same by what a search for a line feed answers
-pub line_first : (bs : List ℕ) (i : ℕ) → First (λ y r. Decides r (y ≡ 10)) bs (Some i) → length (first_line bs) ≡ i
-line_first bs i f = line_found bs i f.0 ((f.1 0).0 refl) (λ k l e. both_ways false refl ((f.2 k 0 (omega arith) l).1 e))
+pub line_first : (bs : List ℕ) (i : ℕ) → First (λ y r. r ≡ eqb y 10) bs (Some i) → length (first_line bs) ≡ i
+line_first bs i f = line_found bs i f.0 (eqb-true (get_or bs i 0) 10 (sym (f.1 0))) (λ k l. eqb-false (get_or bs k 0) 10 (sym (f.2 k 0 (omega arith) l)))
 
-pub line_absent : (bs : List ℕ) → First (λ y r. Decides r (y ≡ 10)) bs None → length (first_line bs) ≡ length bs
-line_absent bs f = line_whole bs (λ k l e. both_ways false refl ((f k 0 (omega arith) l).1 e))
+pub line_absent : (bs : List ℕ) → First (λ y r. r ≡ eqb y 10) bs None → length (first_line bs) ≡ length bs
+line_absent bs f = line_whole bs (λ k l. eqb-false (get_or bs k 0) 10 (sym (f k 0 (omega arith) l)))
 
 -- the same where the search is in the text from a place on
-pub line_first_from : (t : List ℕ) (place i : ℕ) → First (λ y r. Decides r (y ≡ 10)) (take (length t - place) (drop place t)) (Some i) → length (first_line (drop place t)) ≡ i
-line_first_from t place i f = line_first (drop place t) i (subst (λ l. First (λ y r. Decides r (y ≡ 10)) l (Some i)) (take_rest t place) f)
+pub line_first_from : (t : List ℕ) (place i : ℕ) → First (λ y r. r ≡ eqb y 10) (take (length t - place) (drop place t)) (Some i) → length (first_line (drop place t)) ≡ i
+line_first_from t place i f = line_first (drop place t) i (subst (λ l. First (λ y r. r ≡ eqb y 10) l (Some i)) (take_rest t place) f)
 
-pub line_absent_from : (t : List ℕ) (place : ℕ) → First (λ y r. Decides r (y ≡ 10)) (take (length t - place) (drop place t)) None → length (first_line (drop place t)) ≡ length t - place
-line_absent_from t place f = line_absent (drop place t) (subst (λ l. First (λ y r. Decides r (y ≡ 10)) l None) (take_rest t place) f) ∙ length-drop place t
+pub line_absent_from : (t : List ℕ) (place : ℕ) → First (λ y r. r ≡ eqb y 10) (take (length t - place) (drop place t)) None → length (first_line (drop place t)) ≡ length t - place
+line_absent_from t place f = line_absent (drop place t) (subst (λ l. First (λ y r. r ≡ eqb y 10) l None) (take_rest t place) f) ∙ length-drop place t
 
 le_step : (b : ℕ) (bs : List ℕ) (t : Bool) → length (first_line bs) ≤ length bs → length (cond t [] (b ∷ first_line bs)) ≤ suc (length bs)
 le_step b bs true h = omega arith

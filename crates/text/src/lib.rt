@@ -1,3 +1,5 @@
+#![tactic(auto)]
+
 mod class;
 mod codes;
 mod fault;

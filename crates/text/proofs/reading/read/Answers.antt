@@ -6,8 +6,8 @@ use Rattle.text.proofs.Refusing.{faulty_from}
 use Rattle.text.proofs.Settling.{definite, text_long, text_short}
 use Rattle.text.proofs.reading.read.Goals as goal
 
-pub returns-then-text-gt-MAX-BYTES : goal.returns-then-text-gt-MAX-BYTES
-returns-then-text-gt-MAX-BYTES c =
+pub returns-then-text-gt-MAX_BYTES : goal.returns-then-text-gt-MAX_BYTES
+returns-then-text-gt-MAX_BYTES c =
     let before = instructions c.args.draft.now.contents in
     let bs = c.args.text.now in
     let e = text_long before bs (omega arith) in
@@ -33,7 +33,7 @@ returns-in-Err c =
     let before = instructions c.args.draft.now.contents in
     let bs = c.args.text.now in
     let got = c.in-Err.ensures in
-    let after = instructions c.read-lines.new.draft.contents in
+    let after = instructions c.read_lines.new.draft.contents in
     let e = text_short before bs (omega arith) ∙ got.0 in
     let same = c.truncate.ensures ∙ ap (λ n. take n after) c.len-before.ensures ∙ got.1 in
     record {

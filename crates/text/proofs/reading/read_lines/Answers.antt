@@ -33,14 +33,14 @@ loop-reader-init c =
       grown_self m,
     )
 
-pub returns-in-err-read-line : goal.returns-in-err-read-line
-returns-in-err-read-line c =
+pub returns-in_err-read_line : goal.returns-in_err-read_line
+returns-in_err-read_line c =
     let k = c.loop-reader in
     let m = instructions k.draft.contents in
-    let f = c.in-err-read-line.field-0.0 in
+    let f = c.in_err-read_line.field-0.0 in
     let some : 0 < length (left k.reader) = omega (arith, eqb-false (length (left k.reader)) 0 (sym c.loop-reader-test.ensures)) in
-    let got = c.in-err-read-line.ensures.reads in
-    handed_on c.from-residual.result f (instructions c.args.draft.now.contents) c.args.text.now (instructions c.read-line.new.draft.contents) c.from-residual.ensures.1
+    let got = c.in_err-read_line.ensures.reads in
+    handed_on c.from_residual.result f (instructions c.args.draft.now.contents) c.args.text.now (instructions c.read_line.new.draft.contents) c.from_residual.ensures.1
     (lines_stop k.reader.line m (left k.reader) _ k.invariant.0 some f (sym (at_line k.reader (k.invariant.1 some) m) ∙ got.0))
     (subst (Grown (instructions c.args.draft.now.contents)) (sym got.1) k.invariant.2)
 
@@ -52,20 +52,20 @@ pub loop-reader-smaller : goal.loop-reader-smaller
 loop-reader-smaller c =
     let k = c.loop-reader in
     let some : 0 < length (left k.reader) = omega (arith, eqb-false (length (left k.reader)) 0 (sym c.loop-reader-test.ensures)) in
-    let e = next_left k.reader c.read-line.new.self c.next-line.new.self (k.invariant.1 some) c.read-line.ensures.kept.0 c.next-line.ensures.left in
+    let e = next_left k.reader c.read_line.new.self c.next_line.new.self (k.invariant.1 some) c.read_line.ensures.kept.0 c.next_line.ensures.left in
     subst (λ (l : List ℕ). length l < length (left k.reader)) (sym e) (behind_shorter (left k.reader) some)
 
 pub loop-reader-preserved : goal.loop-reader-preserved
 loop-reader-preserved c =
     let k = c.loop-reader in
     let m = instructions k.draft.contents in
-    let n = instructions c.read-line.new.draft.contents in
-    let t = c.next-line.new.self in
+    let n = instructions c.read_line.new.draft.contents in
+    let t = c.next_line.new.self in
     let some : 0 < length (left k.reader) = omega (arith, eqb-false (length (left k.reader)) 0 (sym c.loop-reader-test.ensures)) in
-    let got = c.in-ok-read-line.ensures in
-    let same : left t ≡ behind c.read-line.new.self = c.next-line.ensures.left in
-    let e = next_left k.reader c.read-line.new.self t (k.invariant.1 some) got.kept.0 same in
-    let start : 0 < length (left t) → Starts (k.reader.line + 1) t = λ more. subst (λ i. Starts (i + 1) t) got.kept.1 (c.next-line.ensures.start (subst (λ (l : List ℕ). 0 < length l) same more)) in
+    let got = c.in_ok-read_line.ensures in
+    let same : left t ≡ behind c.read_line.new.self = c.next_line.ensures.left in
+    let e = next_left k.reader c.read_line.new.self t (k.invariant.1 some) got.kept.0 same in
+    let start : 0 < length (left t) → Starts (k.reader.line + 1) t = λ more. subst (λ i. Starts (i + 1) t) got.kept.1 (c.next_line.ensures.start (subst (λ (l : List ℕ). 0 < length l) same more)) in
     let rest = lines_next k.reader.line m (left k.reader) _ k.invariant.0 some n (sym (at_line k.reader (k.invariant.1 some) m) ∙ got.reads) in (
       ⊎_elim
           (λ more. ap (λ i. lines_read i n (lines_of (left t))) (number_is (k.reader.line + 1) t (start more)) ∙ ap (λ l. lines_read (k.reader.line + 1) n (lines_of l)) e ∙ rest)

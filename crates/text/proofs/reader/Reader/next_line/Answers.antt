@@ -9,21 +9,21 @@ returns-then-self c =
     let none = drop_past r.text.now r.line_end (omega arith) in
     record { left = none.0; start = λ some. absurd (omega (arith, none.1)) }
 
-pub invariant-of-self-2 : goal.invariant-of-self-2
-invariant-of-self-2 c =
+pub invariant_of-self-2 : goal.invariant_of-self-2
+invariant_of-self-2 c =
     let r = c.args.self.now in
     let le = line_le (drop (r.line_end + 1) r.text.now) in
     let l = length-drop (r.line_end + 1) r.text.now in
-    (omega arith, ((omega arith, omega arith), ((omega arith, omega arith), tt)))
+    record { short = omega arith; within = (omega arith, omega arith); counted = (omega arith, omega arith) }
 
 pub returns : goal.returns
 returns c =
     let r = c.args.self.now in
-    let e = c.end-of-line-self.ensures in
+    let e = c.end_of_line-self.ensures in
     record {
       left = refl;
       start = λ some. record {
-        place = ap (λ l. record { line = r.line + 1; column = 1; rest = l }) (line_rest r.text.now (r.line_end + 1) c.end-of-line-self.result e);
-        next = line_behind r.text.now (r.line_end + 1) c.end-of-line-self.result e;
+        place = ap (λ l. record { line = r.line + 1; column = 1; rest = l }) (line_rest r.text.now (r.line_end + 1) c.end_of_line-self.result e);
+        next = line_behind r.text.now (r.line_end + 1) c.end_of_line-self.result e;
       };
     }

@@ -11,23 +11,23 @@ stays r s t h k = (k.0 ∙ h.0, k.1 ∙ h.1)
 pub returns-in-Err : goal.returns-in-Err
 returns-in-Err c =
     let k = c.loop-part in
-    let n = c.next-token-located.ensures in
+    let n = c.next_token-located.ensures in
     let stop = parts_stop c.args.form.now k.part-index k.fields (at k.self) _ k.invariant.0 _ (omega arith) _ _ n.token n.column _ c.in-Err.ensures in
     record {
       gives =
           stop
           ∙ ap (λ m. Err (record { cause = c.in-Err.cause; line = k.self.line; column = m })) (sym n.column)
-          ∙ ap (λ m. Err (record { cause = c.in-Err.cause; line = m; column = c.next-token-located.result.column })) (sym n.line)
+          ∙ ap (λ m. Err (record { cause = c.in-Err.cause; line = m; column = c.next_token-located.result.column })) (sym n.line)
           ∙ ap Err (sym c.fault.ensures);
-      kept = stays c.args.self.now k.self c.next-token-located.new.self k.invariant.1 n.kept;
+      kept = stays c.args.self.now k.self c.next_token-located.new.self k.invariant.1 n.kept;
     }
 
 pub loop-part-preserved : goal.loop-part-preserved
 loop-part-preserved c =
     let k = c.loop-part in
-    let n = c.next-token-located.ensures in (
-      parts_more c.args.form.now k.part-index k.fields (at k.self) _ k.invariant.0 _ (omega arith) _ _ n.token n.column c.in-Ok.more (at c.next-token-located.new.self) n.at c.in-Ok.ensures,
-      stays c.args.self.now k.self c.next-token-located.new.self k.invariant.1 n.kept,
+    let n = c.next_token-located.ensures in (
+      parts_more c.args.form.now k.part-index k.fields (at k.self) _ k.invariant.0 _ (omega arith) _ _ n.token n.column c.in-Ok.more (at c.next_token-located.new.self) n.at c.in-Ok.ensures,
+      stays c.args.self.now k.self c.next_token-located.new.self k.invariant.1 n.kept,
     )
 
 pub returns : goal.returns
