@@ -215,11 +215,11 @@ parts_fit (SameAddress ∷ ps) f g a b h z =
     fit_same (subst (Writes ds) (eqb-true n f.address.number s.0) w) (subst (λ x. Fit ps (values x) ts (values g)) (sym (ok_same f k s.1)) r)) h
 
 -- parts can be read from a place on, which gives the values
-abbrev Read-as : List Part → Fields → At → Values → Type 0
-Read-as ps f a w = (g : Fields) × (b : At) × (parts ps f a ≡ Ok (g, b)) × (values g ≡ w)
+abbrev ReadAs : List Part → Fields → At → Values → Type 0
+ReadAs ps f a w = (g : Fields) × (b : At) × (parts ps f a ≡ Ok (g, b)) × (values g ≡ w)
 
 -- parts behind one that is accepted
-read_on : (p : Part) (ps : List Part) (f h : Fields) (a : At) (w : Values) → accepted p f (skipped a).column (next_token a) ≡ Ok h → Read-as ps h (past a) w → Read-as (p ∷ ps) f a w
+read_on : (p : Part) (ps : List Part) (f h : Fields) (a : At) (w : Values) → accepted p f (skipped a).column (next_token a) ≡ Ok h → ReadAs ps h (past a) w → ReadAs (p ∷ ps) f a w
 read_on p ps f h a w e r = (r.0, r.1, parts_next p ps f h a e ∙ r.2, r.3)
 
 -- a number that stands there is put into the fields
@@ -227,7 +227,7 @@ number_put : (t : Tok) (ds : List ℕ) (n : ℕ) (k : ℕ → Result Fields Caus
 number_put t ds n k e w = ap (λ t. and_then (number_in t) k) e ∙ ap (λ r. and_then r k) (writes_in ds n w)
 
 -- parts that fit the tokens that stand there are read
-pub fit_parts : (ps : List Part) (f : Fields) (a : At) (ts : List Tok) (w : Values) → Fit ps (values f) ts w → Tokens a.rest ts → Read-as ps f a w
+pub fit_parts : (ps : List Part) (f : Fields) (a : At) (ts : List Tok) (w : Values) → Fit ps (values f) ts w → Tokens a.rest ts → ReadAs ps f a w
 unfolding parts
 fit_parts [] f a ts w fit_all z = (f, a, refl, refl)
 fit_parts (LineEnd ∷ ps) f a ts w (fit_end r) z =

@@ -13,7 +13,7 @@ use Rattle.text.specs.declared.statement.Part.TheVariants.{Thread, Fixed}
 use Rattle.text.specs.declared.statement.Statement.{Statement}
 use Rattle.text.specs.declared.fault.Cause.TheVariants.{TooLong}
 use Rattle.text.specs.declared.fault.Fault.{Fault}
-use Rattle.text.specs.Grammar.{Spaces, Tokens, done, States, Line, blank, stating, Text, last_line, more_lines, One-reading, Tok}
+use Rattle.text.specs.Grammar.{Spaces, Tokens, done, States, Line, blank, stating, Text, last_line, more_lines, OneReading, Tok}
 use Rattle.text.specs.Lines.{is_end, no_fields, line_from, start_of, instruction_of}
 use Rattle.text.specs.Texts.{lines_of, entered, placed_in, line_read, lines_read, text_read}
 use Rattle.text.specs.Faults.{Readable}
@@ -163,5 +163,5 @@ text_one bs is (last_line u l) = last_one bs is u l
 text_one bs is (more_lines cs rest js ks u l t) = (λ i. line_one cs js l i ++ text_one rest ks t i) ∙ ap in_lines (sym (lines_more cs rest u))
 
 -- each text has one reading
-pub one_reading : (bs : List ℕ) → One-reading bs
+pub one_reading : (bs : List ℕ) → OneReading bs
 one_reading bs is js t u = text_one bs is t ∙ sym (text_one bs js u)

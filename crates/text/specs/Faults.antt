@@ -10,7 +10,7 @@ use Rattle.text.specs.declared.fault.Cause.{Cause}
 use Rattle.text.specs.declared.fault.Cause.TheVariants.{TooLong, Misfit, TooLarge, OtherAddress, Trace}
 use Rattle.text.specs.declared.fault.Fault.{Fault}
 use Rattle.text.specs.declared.token.Symbol.{Symbol}
-use Rattle.text.specs.Grammar.{Begins, Line, One-reading, Text, Spaces, States, denoted, Tok, number, fixed}
+use Rattle.text.specs.Grammar.{Begins, Line, OneReading, Text, Spaces, States, denoted, Tok, number, fixed}
 
 -- some line of the format begins with the tokens ts
 abbrev pub Viable : List Tok → Type 0
@@ -95,7 +95,7 @@ Reads before bs (Err f) after = Faulty before bs f × (after ≡ before)
 
 -- a text has at most one reading; behind given instructions it leads to at most one end and has at most one first fault, and never both
 pub record Definite (before : List Instruction) (bs : List ℕ) : Type 0 where
-  pub one_reading : One-reading bs
+  pub one_reading : OneReading bs
   pub one_end : (x y : List Instruction) → Readable before bs x → Readable before bs y → x ≡ y
   pub one_fault : (f g : Fault) → Faulty before bs f → Faulty before bs g → f ≡ g
   pub never_both : (x : List Instruction) (f : Fault) → Readable before bs x → Faulty before bs f → ⊥

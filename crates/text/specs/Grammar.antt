@@ -80,5 +80,5 @@ pub data Text : List ℕ → List Instruction → Type 0 where
   more_lines : (bs rest : List ℕ) (is js : List Instruction) → All (λ b. b ≢ 10) bs → Line bs is → Text rest js → Text (bs ++ 10 ∷ rest) (is ++ js)
 
 -- a text has at most one reading
-abbrev pub One-reading : List ℕ → Type 0
-One-reading bs = (is js : List Instruction) → Text bs is → Text bs js → is ≡ js
+abbrev pub OneReading : List ℕ → Type 0
+OneReading bs = (is js : List Instruction) → Text bs is → Text bs js → is ≡ js
