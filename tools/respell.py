@@ -1,7 +1,8 @@
 #!/usr/bin/env python3
 """Brings definitions and lemmas of specs/ and proofs/ to snake case, once, after the kit's port.py.
 
-usage: python3 tools/respell.py        at the top of the repository
+usage: python3 tools/respell.py          at the top of the repository, once
+       python3 tools/respell.py types    the same for types with a dash, One-reading to OneReading; a second run changes nothing
 
 A name goes by its definition: every camelCase or kebab-case name that a specs/ or proofs/ file defines, but not an answer
 to a goal, whose name the prover makes. The functions of src/ and all strings keep their names.
@@ -9,6 +10,7 @@ to a goal, whose name the prover makes. The functions of src/ and all strings ke
 
 import glob
 import re
+import sys
 
 # Names that would fall together in snake case, and what each is called instead.
 APART = {
@@ -102,6 +104,21 @@ def main():
     return new
 
 
+def types():
+    new = {}
+    for path in antt():
+        for line in open(path, encoding="utf-8"):
+            m = SIGNATURE.match(line)
+            if m and m.group(1)[0].isupper() and "-" in m.group(1):
+                new[m.group(1)] = re.sub("-(.)", lambda it: it.group(1).upper(), m.group(1))
+    for path in antt() + sorted(glob.glob("crates/*/src/**/*.rt", recursive=True)):
+        text = open(path, encoding="utf-8").read()
+        turned = re.sub(r"(?<![\w'-])[A-Z][\w'-]*(?![\w'])", lambda m: new.get(m.group(0), m.group(0)), text)
+        if turned != text:
+            open(path, "w", encoding="utf-8").write(turned)
+    return new
+
+
 if __name__ == "__main__":
-    for k, v in sorted(main().items()):
+    for k, v in sorted((types() if sys.argv[1:] == ["types"] else main()).items()):
         print(k, "->", v)

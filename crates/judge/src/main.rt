@@ -1,4 +1,6 @@
 // Reads a trace from standard input and prints what it read, or the fault.
+#![tactic(auto)]
+
 use std::io::Read;
 use text::{MAX_BYTES, read};
 use traces::{Draft, Instruction, Kind, Trace};

@@ -1,4 +1,5 @@
 // Texts and what reading them must answer.
+#![tactic(auto)]
 
 #[cfg(test)]
 mod tests {

@@ -107,7 +107,7 @@ impl Contents {
 
     // The instruction that an entry stands for.
     pub(crate) fn instruction_of(&self, entry: Entry) -> Instruction
-        requires { (entry.thread < vec_len self.now.threads) × ((addressed entry.kind ≡ true → entry.address < vec_len self.now.addresses)) }
+        requires { (entry.thread < vec_len self.now.threads) × (addressed entry.kind ≡ true → entry.address < vec_len self.now.addresses) }
         ensures { result ≡ stated_by self.now.threads.items self.now.addresses.items entry }
     {
         Instruction {
