@@ -1,3 +1,5 @@
+#![tactic(auto)]
+
 mod event;
 mod events;
 mod table;
