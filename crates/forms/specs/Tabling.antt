@@ -39,10 +39,8 @@ module _ (is : List Instruction) (e i : ℕ) (x y : Instruction) (at_i : slice_g
       rw (← (found is i x at_i).1, ← (found is e y at-e).1) h
 
   -- where the earlier entry writes, a test of the two addresses tells
-  pub writer_tested : true ≡ writes x.kind → (b : Bool) → Decides b (x.address.number ≡ y.address.number) → b ≡ is_writer_before is e i
-  writer_tested writing b test =
-      same_from_decides b (same_address x.address y.address) test (Decides-eqb x.address.number y.address.number)
-      ∙ ap (λ t. t && same_address x.address y.address) writing ∙ writer_found
+  pub writer_tested : true ≡ writes x.kind → (b : Bool) → b ≡ same_address x.address y.address → b ≡ is_writer_before is e i
+  writer_tested writing b test = test ∙ ap (λ t. t && same_address x.address y.address) writing ∙ writer_found
 
   -- an entry that does not write is none of the writers
   pub writer_silent : false ≡ writes x.kind → false ≡ is_writer_before is e i

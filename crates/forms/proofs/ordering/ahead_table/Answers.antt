@@ -10,7 +10,7 @@ pub loop-j-preserved : goal.loop-j-preserved
 loop-j-preserved g c =
     let trace = c.args.trace.now in
     filled_more (λ j k. keeps (instructions_of trace) (order_of g.M.Model c.args.model.now trace) k j) c.loop-j.table c.loop-j.j
-    c.entries-ahead.result c.loop-j-test.true c.entries-ahead.ensures c.loop-j.invariant
+    c.entries_ahead.result c.loop-j-test.true c.entries_ahead.ensures c.loop-j.invariant
 
 pub returns : goal.returns
 returns g c i j =

@@ -10,8 +10,8 @@ pub loop-i-preserved : goal.loop-i-preserved
 loop-i-preserved g c =
     let trace = c.args.trace.now in
     let order = order_of g.M.Model c.args.model.now trace in
-    built_more (λ k. keeps (instructions_of trace) order k c.args.j) c.loop-i.set c.with-if-set.result c.loop-i.i
-    c.keeps-ahead.result c.keeps-ahead.ensures.keeps c.with-if-set.ensures
+    built_more (λ k. keeps (instructions_of trace) order k c.args.j) c.loop-i.set c.with_if-set.result c.loop-i.i
+    c.keeps_ahead.result c.keeps_ahead.ensures.keeps c.with_if-set.ensures
     (λ passes. omega (arith, c.loop-i-test.true, (keeps_parts (instructions_of trace) order c.loop-i.i c.args.j passes).1, few_entries trace.contents))
     c.loop-i.invariant
 
