@@ -3,8 +3,8 @@ use Rattle.std.proofs.lemmas.Bool.{both_ways}
 use Rattle.models.specs.Meaning.{tables_of}
 use Rattle.forms.specs.PreservedOrder.{KeepsNoFewer}
 use Rattle.forms.specs.Traced.{instructions_of, order_of}
-use Rattle.forms.specs.Preserving.{no_fewer_all, no_fewer_each, preserved_strict}
-use Rattle.forms.specs.Weaker.{weaker}
+use Rattle.forms.specs.Lemmas.Preserving.{no_fewer_all, no_fewer_each, preserved_strict}
+use Rattle.forms.specs.Lemmas.Weaker.{weaker}
 use Rattle.forms.proofs.pairs.at_least_as_strict_on.Goals as goal
 
 pub returns-then-not-at_least_as_strict_before : goal.returns-then-not-at_least_as_strict_before
@@ -18,7 +18,7 @@ returns-then-not-at_least_as_strict_before g c =
     record {
       pairs = (λ h. absurd (both_ways false refl h), fewer);
       strict = λ s. fewer (strict s (instructions_of trace));
-      orders = λ h. absurd (both_ways false refl h);
+      orders = λ h o lawful. absurd (both_ways false refl h);
       weaker = λ s. weaker (instructions_of trace) p q (strict s (instructions_of trace));
     }
 

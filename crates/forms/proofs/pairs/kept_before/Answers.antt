@@ -1,7 +1,7 @@
 use Rattle.std.proofs.Common.{true, false, sym, ◌∙◌, arith}
 use Rattle.forms.specs.KeptPairs.{keeps}
 use Rattle.forms.specs.Traced.{instructions_of, order_of}
-use Rattle.forms.specs.Counting.{count_counting_more}
+use Rattle.forms.specs.Lemmas.Counting.{count_counting_more}
 use Rattle.forms.proofs.pairs.kept_before.Goals as goal
 use Rattle.forms.proofs.pairs.kept_before.Goals.{then-keeps_ahead, else-keeps_ahead}
 

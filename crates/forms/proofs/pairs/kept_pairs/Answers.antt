@@ -2,7 +2,7 @@ use Rattle.std.proofs.Common.{arith}
 use Rattle.traces.proofs.Holding.{few_entries}
 use Rattle.forms.specs.KeptPairs.{kept_before}
 use Rattle.forms.specs.Traced.{instructions_of, order_of}
-use Rattle.forms.specs.Counting.{sum_counting_more}
+use Rattle.forms.specs.Lemmas.Counting.{sum_counting_more}
 use Rattle.forms.proofs.pairs.kept_pairs.Goals as goal
 
 pub kept_before-total-requires : goal.kept_before-total-requires

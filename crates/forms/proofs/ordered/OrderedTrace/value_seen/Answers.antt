@@ -2,7 +2,7 @@ use Rattle.std.proofs.Common.{get_or, sym, ap, ◌∙◌, arith}
 use Rattle.forms.specs.EntrySets.{member}
 use Rattle.forms.specs.Memories.{word_at}
 use Rattle.forms.specs.Traced.{instructions_of}
-use Rattle.forms.specs.Entered.{entry_found}
+use Rattle.forms.specs.Lemmas.Entered.{entry_found}
 use Rattle.forms.proofs.Forwards.{reading_slot, seen_forwarded, seen_memory}
 use Rattle.forms.proofs.ordered.OrderedTrace.value_seen.Goals as goal
 

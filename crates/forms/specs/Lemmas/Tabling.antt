@@ -1,10 +1,9 @@
 -- The tables of a preserved order: which entries are in their sets, and the laws that follow from that.
-use Rattle.std.specs.Prelude.{◌≡◌, ℕ, ◌<◌, Bool, true, false, not, ◌&&◌, ltb, List, length, Some, Decides, nat_lt}
+use Rattle.std.specs.Prelude.{◌≡◌, ℕ, ◌<◌, Bool, true, false, not, ◌&&◌, ltb, List, length, Some, nat_lt}
 use Rattle.std.proofs.Common.{sym, ◌∙◌, ap, ap₂, arith}
 use Rattle.std.proofs.Math.Path.{fun_ext}
 use Rattle.std.specs.List.{slice_get}
 use Rattle.std.proofs.lemmas.Bool.{and_from, and_parts, lt-ltb, ltb-true, not_from_false, not-true}
-use Rattle.std.proofs.lemmas.Bool.Decides.{Decides-eqb, same_from_decides}
 use Rattle.traces.specs.declared.entry.Instruction.{Instruction}
 use Rattle.traces.specs.Adding.{same_address}
 use Rattle.traces.specs.Kinds.{writes}
@@ -14,8 +13,8 @@ use Rattle.forms.specs.EntrySets.{member}
 use Rattle.forms.specs.KeptPairs.{clipped, is_earlier, keeps, waiting}
 use Rattle.forms.specs.OrderTables.{CoherentInTable, OnlyEarlier, PromptInTable, is_writer_before, set_at, tabled}
 use Rattle.forms.specs.PreservedOrder.{Laws, Preserved}
-use Rattle.forms.specs.Basics.{decides_same_address}
-use Rattle.forms.specs.Preserving.{earlier_found, earlier_from, earlier_parts, found, keeps_from}
+use Rattle.forms.specs.Lemmas.Basics.{decides_same_address}
+use Rattle.forms.specs.Lemmas.Preserving.{earlier_found, earlier_from, earlier_parts, found, keeps_from}
 
 -- an entry that waits is one of the trace
 pub waiting_below : (is : List Instruction) (p : Preserved) (i : ℕ) → waiting is p i ≡ true → i < length is
