@@ -6,7 +6,7 @@ use Rattle.std.proofs.lemmas.Bool.{and_left, and_right, cases_Bool, cases_eq, ca
 use Rattle.forms.specs.declared.entry_set.EntrySet.{EntrySet}
 use Rattle.forms.specs.EntrySets.{inserted, member}
 use Rattle.forms.specs.OrderTables.{set_at}
-use Rattle.forms.specs.Members.{member_inserted_other, member_inserted_same}
+use Rattle.forms.specs.Lemmas.Members.{member_inserted_other, member_inserted_same}
 
 -- the members of a set are the numbers below n that pass a test
 abbrev pub Built : (ℕ → Bool) → EntrySet → ℕ → Type 0

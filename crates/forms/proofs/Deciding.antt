@@ -14,10 +14,10 @@ use Rattle.forms.specs.Lawful.{Allows, Lawful}
 use Rattle.forms.specs.OrderMachine.{OrderPosition, all_placed, order_opening, place, placing, unplaced}
 use Rattle.forms.specs.PreservedOrder.{Laws, Preserved, preserved}
 use Rattle.forms.specs.Runs.{onward, run}
-use Rattle.forms.specs.Basics.{some_below_decides}
-use Rattle.forms.specs.Counting.{count_all, count_none, count_one_less}
-use Rattle.forms.specs.Placing.{all_placed_each, lawful_order, order_lawful, place_effect, place_ready}
-use Rattle.forms.specs.Preserving.{preserved_laws}
+use Rattle.forms.specs.Lemmas.Basics.{some_below_decides}
+use Rattle.forms.specs.Lemmas.Counting.{count_all, count_none, count_one_less}
+use Rattle.forms.specs.Lemmas.Placing.{all_placed_each, lawful_order, order_lawful, place_effect, place_ready}
+use Rattle.forms.specs.Lemmas.Preserving.{preserved_laws}
 
 -- what a test says of a position, if there is one
 abbrev pub passes : Option OrderPosition → (OrderPosition → Bool) → Bool

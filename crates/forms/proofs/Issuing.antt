@@ -10,12 +10,12 @@ use Rattle.forms.specs.PreservedOrder.{Laws, Preserved}
 use Rattle.forms.specs.RulesMachine.{RulesPosition, act, acts, all_out, carried_at_once, carry, counted, departed, is_issued, issue, joined, leave, next}
 use Rattle.forms.specs.RulesMachine.{rank, rules_opening, stepped, thread_slot}
 use Rattle.forms.specs.Runs.{carried_out, listed_from, onward, run}
-use Rattle.forms.specs.Basics.{some_below_fails, some_below_none}
+use Rattle.forms.specs.Lemmas.Basics.{some_below_fails, some_below_none}
 use Rattle.forms.proofs.Queues.{Queued, carry_does, carry_ready, counted_agree, counted_done, counted_queued, counted_rest, departed_agree}
 use Rattle.forms.proofs.Queues.{departed_done, departed_queued, departed_rest, done_out, done_waiting, holds, is_done, is_out, joined_done, joined_issued}
 use Rattle.forms.proofs.Queues.{joined_queued, joined_waits, next_not_done, out_from, out_parts, stepped_effect, stepped_queued, waiting_not_done}
 use Rattle.forms.proofs.Ranks.{Slotted, issued_by, next_is, next_parts, rank_find, same_slot}
-use Rattle.forms.specs.Steps.{From, backward, end_from, forward, from_end, lawful_in, lawful_out, ready_here}
+use Rattle.forms.specs.Lemmas.Steps.{From, backward, end_from, forward, from_end, lawful_in, lawful_out, ready_here}
 
 -- runs of any machine over two lists of codes, one after the other
 module _ {S : Type 0} (step : S → ℕ → Option S) (carries : S → ℕ → List ℕ) where

@@ -14,13 +14,13 @@ use Rattle.forms.specs.EntrySets.{inserted, member, removed}
 use Rattle.forms.specs.Memories.{held_entry, with_word, word_at, word_of}
 use Rattle.forms.specs.OrderForms.{after_placing, kept_in, order_done, order_note, order_step, shown, traced}
 use Rattle.forms.specs.OrderMachine.{all_placed, place, placing, unplaced}
-use Rattle.forms.specs.Basics.{some_below_decides, some_below_none, writes_addressed}
-use Rattle.forms.specs.Carry.{may_agree}
-use Rattle.forms.specs.Entered.{address_slot_below, entry_address, entry_found, entry_missing}
-use Rattle.forms.specs.Members.{removed_inserted}
-use Rattle.forms.specs.OrderRuns.{order_within, step_below, step_fresh}
-use Rattle.forms.specs.Remembering.{word_put_back}
-use Rattle.forms.specs.Simulation.{ruled_from, ruled_none, ruled_some}
+use Rattle.forms.specs.Lemmas.Basics.{some_below_decides, some_below_none, writes_addressed}
+use Rattle.forms.specs.Lemmas.Carry.{may_agree}
+use Rattle.forms.specs.Lemmas.Entered.{address_slot_below, entry_address, entry_found, entry_missing}
+use Rattle.forms.specs.Lemmas.Members.{removed_inserted}
+use Rattle.forms.specs.Lemmas.OrderRuns.{order_within, step_below, step_fresh}
+use Rattle.forms.specs.Lemmas.Remembering.{word_put_back}
+use Rattle.forms.specs.Lemmas.Simulation.{ruled_from, ruled_none, ruled_some}
 
 module _ {X : Type 0} (f : OrderForm X) (e : ℕ) where
   -- whether the rules allow entry e

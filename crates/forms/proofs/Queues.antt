@@ -6,9 +6,9 @@ use Rattle.forms.specs.Carrying.{contents, may_carry_out}
 use Rattle.forms.specs.Entries.{Earlier, instruction_at}
 use Rattle.forms.specs.PreservedOrder.{Preserved}
 use Rattle.forms.specs.RulesMachine.{RulesPosition, carry, counted, departed, is_issued, joined, rank, stepped, thread_slot}
-use Rattle.forms.specs.Carry.{may_free, may_from, may_value, stored_here, stored_other}
+use Rattle.forms.specs.Lemmas.Carry.{may_free, may_from, may_value, stored_here, stored_other}
 use Rattle.forms.proofs.Ranks.{Slotted, issued_by, rank_one, rank_up, same_slot}
-use Rattle.forms.specs.Steps.{Effect, Ready}
+use Rattle.forms.specs.Lemmas.Steps.{Effect, Ready}
 
 -- whether there is an entry i, and it is issued
 abbrev pub is_out : List Instruction → RulesPosition → ℕ → Bool

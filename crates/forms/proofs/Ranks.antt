@@ -7,8 +7,8 @@ use Rattle.traces.specs.Adding.{threads_of}
 use Rattle.traces.specs.Slots.{slot}
 use Rattle.forms.specs.Entries.{Earlier, instruction_at}
 use Rattle.forms.specs.RulesMachine.{RulesPosition, next, rank, thread_slot}
-use Rattle.forms.specs.Basics.{last_below_none, last_below_some}
-use Rattle.forms.specs.Counting.{count_counting_more}
+use Rattle.forms.specs.Lemmas.Basics.{last_below_none, last_below_some}
+use Rattle.forms.specs.Lemmas.Counting.{count_counting_more}
 
 -- the slots of the threads of a trace: there are at most 8, and different threads have different ones
 pub record Slotted (is : List Instruction) : Type 0 where

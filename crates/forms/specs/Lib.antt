@@ -3,6 +3,7 @@ pub mod Entries
 pub mod EntrySets
 pub mod KeptPairs
 pub mod Lawful
+pub mod Lemmas
 pub mod Memories
 pub mod OrderForms
 pub mod OrderMachine
@@ -11,17 +12,3 @@ pub mod PreservedOrder
 pub mod RulesMachine
 pub mod Runs
 pub mod Traced
-pub mod OrderRuns
-pub mod Counting
-pub mod Members
-pub mod BinaryDigits
-pub mod Placing
-pub mod Basics
-pub mod Carry
-pub mod Steps
-pub mod Remembering
-pub mod Entered
-pub mod Simulation
-pub mod Tabling
-pub mod Preserving
-pub mod Weaker

@@ -1,3 +1,5 @@
+#![tactic(auto)]
+
 mod carrying;
 mod entry_set;
 mod form;

@@ -5,7 +5,7 @@ ghost use Rattle.forms.specs.KeptPairs.{clipped};
 ghost use Rattle.forms.specs.Lawful.{Allows};
 ghost use Rattle.forms.specs.OrderForms.{CanFinish, kept_in, order_carries, order_done, order_left, order_note, order_start, order_step, traced};
 ghost use Rattle.forms.specs.Traced.{instructions_of, order_of};
-ghost use Rattle.forms.specs.OrderRuns.{order_within, order_lowers, order_sound, order_complete};
+ghost use Rattle.forms.specs.Lemmas.OrderRuns.{order_within, order_lowers, order_sound, order_complete};
 ghost use Rattle.std.proofs.Common.{arith, rules};
 ghost use Rattle.std.proofs.lemmas.List.FromFn.{length-range_with_len};
 ghost use Rattle.std.proofs.lemmas.List.Sums.{count_by-le-length};

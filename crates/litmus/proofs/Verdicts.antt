@@ -1,8 +1,9 @@
 -- The litmus table, by one computed test over its rows.
 use Rattle.std.proofs.Common.{◌≡◌, Bool, true, false, ◌&&◌, List, [], ◌∷◌, sym, refl, ◌∙◌}
 use mathlib.Core.Bool.{beq}
-use Rattle.std.specs.List.{AllByRecursion as All}
+use Rattle.std.specs.List.{All}
 use Rattle.std.proofs.lemmas.Bool.{and_parts}
+use Rattle.std.proofs.lemmas.List.Elements.{All-cons, All-nil}
 use Rattle.models.specs.declared.name.ModelName.{ModelName}
 use Rattle.models.specs.declared.name.ModelName.TheVariants.{Sc, Tso, Pso, Rmo}
 use Rattle.models.specs.Standard.{standard}
@@ -46,8 +47,10 @@ holds r h m =
 
 -- and so do all
 all_hold : (rs : List Row) → all_right rs ≡ true → All Holds rs
-all_hold [] h = tt
-all_hold (r ∷ rs) h = (holds r (and_parts (right r) (all_right rs) h).0, all_hold rs (and_parts (right r) (all_right rs) h).1)
+all_hold [] h = All-nil Holds
+all_hold (r ∷ rs) h =
+    let both = and_parts (right r) (all_right rs) h in
+    All-cons Holds r rs (holds r both.0) (all_hold rs both.1)
 
 -- the test is computed
 table_right : all_right table ≡ true

@@ -1,3 +1,5 @@
+#![tactic(auto)]
+
 mod event;
 mod events;
 mod table;
@@ -10,7 +12,7 @@ mod tests {
     use crate::event::LitmusTest;
     use crate::table::litmus_tests;
     use forms::{Form, OrderForm};
-    use models::{Model, ModelName, Pso, PsoModel, Rmo, RmoModel, Sc, ScModel, Tso, TsoModel};
+    use models::{Model, ModelName, Pso, Rmo, Sc, Tso};
     use std::test::*;
     use traces::{Draft, Trace};
 
@@ -20,7 +22,9 @@ mod tests {
         for event in test.events {
             let i = event.instruction();
             let added = draft.add(i.thread, i.kind.number(), i.address, i.read, i.written);
-            assert!(added.is_ok());
+            if added.is_err() {
+                return Err(Fail::new("an entry is refused"));
+            }
         }
         Ok(draft.seal())
     }

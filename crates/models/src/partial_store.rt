@@ -4,14 +4,14 @@ ghost use Rattle.std.proofs.Common.{rules};
 
 use crate::access::Access;
 use crate::accesses::{both_write, either_syncs, is_store, on_same_address};
-use crate::model::Model;
+use crate::model::Model as MemoryModel;
 use traces::Kind;
 
 // Stores wait, and those to different addresses may overtake each other.
 #[derive(Clone, Copy)]
 pub struct Pso {}
 
-pub impl Model for Pso as PsoModel {
+impl MemoryModel for Pso {
     ghost waiting = { λ _. pso.waiting };
 
     ghost ahead = { λ _. pso.ahead };

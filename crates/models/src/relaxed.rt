@@ -4,14 +4,14 @@ ghost use Rattle.std.proofs.Common.{rules};
 
 use crate::access::Access;
 use crate::accesses::{either_syncs, is_sync, on_same_address};
-use crate::model::Model;
+use crate::model::Model as MemoryModel;
 use traces::Kind;
 
 // All but syncs wait. Only a later write of the same address, and syncs, keep a sequence.
 #[derive(Clone, Copy)]
 pub struct Rmo {}
 
-pub impl Model for Rmo as RmoModel {
+impl MemoryModel for Rmo {
     ghost waiting = { λ _. rmo.waiting };
 
     ghost ahead = { λ _. rmo.ahead };

@@ -3,14 +3,14 @@ ghost use Rattle.models.specs.Tables.{sc};
 ghost use Rattle.std.proofs.Common.{rules};
 
 use crate::access::Access;
-use crate::model::Model;
+use crate::model::Model as MemoryModel;
 use traces::Kind;
 
 // Every instruction takes effect in the sequence of its thread.
 #[derive(Clone, Copy)]
 pub struct Sc {}
 
-pub impl Model for Sc as ScModel {
+impl MemoryModel for Sc {
     ghost waiting = { λ _. sc.waiting };
 
     ghost ahead = { λ _. sc.ahead };

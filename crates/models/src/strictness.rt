@@ -4,13 +4,11 @@ ghost use Rattle.models.specs.Meaning.{tables_of};
 ghost use Rattle.models.specs.Standard.{standard};
 ghost use Rattle.models.specs.Tables.{AtLeastAsStrict};
 ghost use Rattle.models.specs.declared.name.ModelName.TheVariants.{Pso as PsoName, Rmo as RmoName, Sc as ScName, Tso as TsoName};
-ghost use Rattle.models.specs.contracts.partial_store.PsoModel.TheImpl.{ghosts as pso};
-ghost use Rattle.models.specs.contracts.relaxed.RmoModel.TheImpl.{ghosts as rmo};
-ghost use Rattle.models.specs.contracts.sequential.ScModel.TheImpl.{ghosts as sc};
-ghost use Rattle.models.specs.contracts.total_store.TsoModel.TheImpl.{ghosts as tso};
 
 use crate::access::Access;
 use crate::model::Model;
+// the trait under a name that clauses tell from the trait Model of the language
+use crate::model::Model as MemoryModel;
 use crate::partial_store::Pso;
 use crate::relaxed::Rmo;
 use crate::sequential::Sc;
@@ -23,7 +21,7 @@ pub fn at_least_as_strict_at<M: Model, N: Model>(
     i: Access,
     j: Access,
 ) -> bool
-    ensures pair { result ≡ (not (N.Model.ahead second.now i j) || M.Model.ahead first.now i j) }
+    ensures pair { result ≡ (not (N.ahead second.now i j) || M.ahead first.now i j) }
     ensures strict { AtLeastAsStrict (tables_of M.Model first.now) (tables_of N.Model second.now) → result ≡ true }
 {
     !second.keeps_ahead(i, j) || first.keeps_ahead(i, j)
@@ -31,10 +29,10 @@ pub fn at_least_as_strict_at<M: Model, N: Model>(
 
 // The four models of the field, each at least as strict as the next.
 pub fn standard_models() -> (Sc, Tso, Pso, Rmo)
-    ensures named { (tables_of sc result.0 ≡ standard ScName) × (tables_of tso result.1 ≡ standard TsoName) × (tables_of pso result.2 ≡ standard PsoName) × (tables_of rmo result.3 ≡ standard RmoName) }
-    ensures first { AtLeastAsStrict (tables_of sc result.0) (tables_of tso result.1) }
-    ensures second { AtLeastAsStrict (tables_of tso result.1) (tables_of pso result.2) }
-    ensures third { AtLeastAsStrict (tables_of pso result.2) (tables_of rmo result.3) }
+    ensures named { (tables_of ⟦<Sc as MemoryModel>⟧ result.0 ≡ standard ScName) × (tables_of ⟦<Tso as MemoryModel>⟧ result.1 ≡ standard TsoName) × (tables_of ⟦<Pso as MemoryModel>⟧ result.2 ≡ standard PsoName) × (tables_of ⟦<Rmo as MemoryModel>⟧ result.3 ≡ standard RmoName) }
+    ensures first { AtLeastAsStrict (tables_of ⟦<Sc as MemoryModel>⟧ result.0) (tables_of ⟦<Tso as MemoryModel>⟧ result.1) }
+    ensures second { AtLeastAsStrict (tables_of ⟦<Tso as MemoryModel>⟧ result.1) (tables_of ⟦<Pso as MemoryModel>⟧ result.2) }
+    ensures third { AtLeastAsStrict (tables_of ⟦<Pso as MemoryModel>⟧ result.2) (tables_of ⟦<Rmo as MemoryModel>⟧ result.3) }
 {
     (Sc {}, Tso {}, Pso {}, Rmo {})
 }

@@ -4,14 +4,14 @@ ghost use Rattle.std.proofs.Common.{rules};
 
 use crate::access::Access;
 use crate::accesses::{both_write, either_syncs, is_store};
-use crate::model::Model;
+use crate::model::Model as MemoryModel;
 use traces::Kind;
 
 // Stores wait in one store buffer for each thread.
 #[derive(Clone, Copy)]
 pub struct Tso {}
 
-pub impl Model for Tso as TsoModel {
+impl MemoryModel for Tso {
     ghost waiting = { λ _. tso.waiting };
 
     ghost ahead = { λ _. tso.ahead };

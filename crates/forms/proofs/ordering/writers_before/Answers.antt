@@ -3,14 +3,14 @@ use Rattle.traces.proofs.Holding.{few_entries}
 use Rattle.forms.specs.OrderTables.{is_writer_before}
 use Rattle.forms.specs.Traced.{instructions_of}
 use Rattle.forms.proofs.Building.{built_all, built_more}
-use Rattle.forms.specs.Tabling.{writer_below}
+use Rattle.forms.specs.Lemmas.Tabling.{writer_below}
 use Rattle.forms.proofs.ordering.writers_before.Goals as goal
 
 pub loop-i-preserved : goal.loop-i-preserved
 loop-i-preserved c =
     let trace = c.args.trace.now in
-    built_more (is_writer_before (instructions_of trace) c.args.e) c.loop-i.set c.with-if-set.result c.loop-i.i
-    c.writes-before.result c.writes-before.ensures c.with-if-set.ensures
+    built_more (is_writer_before (instructions_of trace) c.args.e) c.loop-i.set c.with_if-set.result c.loop-i.i
+    c.writes_before.result c.writes_before.ensures c.with_if-set.ensures
     (λ passes. omega (arith, c.loop-i-test.true, (writer_below (instructions_of trace) c.args.e c.loop-i.i passes).1, few_entries trace.contents))
     c.loop-i.invariant
 

@@ -1,19 +1,19 @@
 use Rattle.std.proofs.Common.{sym, ◌∙◌, inl, inr, arith}
 use Rattle.forms.specs.Traced.{instructions_of}
-use Rattle.forms.specs.Preserving.{earlier_apart, earlier_no_first, earlier_no_second}
-use Rattle.forms.specs.Tabling.{writer_apart, writer_silent, writer_tested}
+use Rattle.forms.specs.Lemmas.Preserving.{earlier_apart, earlier_no_first, earlier_no_second}
+use Rattle.forms.specs.Lemmas.Tabling.{writer_apart, writer_silent, writer_tested}
 use Rattle.forms.proofs.ordering.writes_before.Goals as goal
 
-pub returns-in-default : goal.returns-in-default
-returns-in-default c =
+pub returns-in_default : goal.returns-in_default
+returns-in_default c =
     let is = instructions_of c.args.trace.now in
-    writer_apart is c.args.e c.args.i (earlier_no_first is c.args.i c.args.e (sym c.instruction.ensures ∙ c.in-default.is))
+    writer_apart is c.args.e c.args.i (earlier_no_first is c.args.i c.args.e (sym c.instruction.ensures ∙ c.in_default.is))
 
-pub returns-in-default-instruction : goal.returns-in-default-instruction
-returns-in-default-instruction c =
+pub returns-in_default-instruction : goal.returns-in_default-instruction
+returns-in_default-instruction c =
     let is = instructions_of c.args.trace.now in
     writer_apart is c.args.e c.args.i
-    (earlier_no_second is c.args.i c.args.e (sym c.instruction-2.ensures ∙ c.in-default-instruction.is))
+    (earlier_no_second is c.args.i c.args.e (sym c.instruction-2.ensures ∙ c.in_default-instruction.is))
 
 pub returns-then-i-e : goal.returns-then-i-e
 returns-then-i-e c =

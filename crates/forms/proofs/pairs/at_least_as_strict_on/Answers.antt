@@ -3,22 +3,22 @@ use Rattle.std.proofs.lemmas.Bool.{both_ways}
 use Rattle.models.specs.Meaning.{tables_of}
 use Rattle.forms.specs.PreservedOrder.{KeepsNoFewer}
 use Rattle.forms.specs.Traced.{instructions_of, order_of}
-use Rattle.forms.specs.Preserving.{no_fewer_all, no_fewer_each, preserved_strict}
-use Rattle.forms.specs.Weaker.{weaker}
+use Rattle.forms.specs.Lemmas.Preserving.{no_fewer_all, no_fewer_each, preserved_strict}
+use Rattle.forms.specs.Lemmas.Weaker.{weaker}
 use Rattle.forms.proofs.pairs.at_least_as_strict_on.Goals as goal
 
-pub returns-then-not-at-least-as-strict-before : goal.returns-then-not-at-least-as-strict-before
-returns-then-not-at-least-as-strict-before g c =
+pub returns-then-not-at_least_as_strict_before : goal.returns-then-not-at_least_as_strict_before
+returns-then-not-at_least_as_strict_before g c =
     let trace = c.args.trace.now in
     let p = order_of g.M.Model c.args.first.now trace in
     let q = order_of g.N.Model c.args.second.now trace in
     let fewer : KeepsNoFewer (instructions_of trace) p q → ◌≡◌ false true =
-    λ k. sym c.if-not-at-least-as-strict-before.true ∙ c.at-least-as-strict-before.ensures.1 (no_fewer_each (instructions_of trace) p q k c.loop-j.j) in
+    λ k. sym c.if-not-at_least_as_strict_before.true ∙ c.at_least_as_strict_before.ensures.1 (no_fewer_each (instructions_of trace) p q k c.loop-j.j) in
     let strict = preserved_strict (tables_of g.M.Model c.args.first.now) (tables_of g.N.Model c.args.second.now) in
     record {
       pairs = (λ h. absurd (both_ways false refl h), fewer);
       strict = λ s. fewer (strict s (instructions_of trace));
-      orders = λ h. absurd (both_ways false refl h);
+      orders = λ h o lawful. absurd (both_ways false refl h);
       weaker = λ s. weaker (instructions_of trace) p q (strict s (instructions_of trace));
     }
 

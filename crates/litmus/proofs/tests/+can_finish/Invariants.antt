@@ -1,4 +1,4 @@
 use Rattle.litmus.proofs.tests.+can_finish.Given as goal
 
-abbrev pub decreases-can-finish : goal.decreases-can-finish
-decreases-can-finish g l = l.left
+abbrev pub decreases-can_finish : goal.decreases-can_finish
+decreases-can_finish g l = l.left

@@ -1,7 +1,7 @@
 use Rattle.std.proofs.Common.{sym, ap, ◌∙◌}
 use lib.Bits.{bit_or}
 use Rattle.std.proofs.lemmas.Nat.{one_shl}
-use Rattle.forms.specs.Members.{inserted_below, inserted_beyond}
+use Rattle.forms.specs.Lemmas.Members.{inserted_below, inserted_beyond}
 use Rattle.forms.proofs.entry_set.EntrySet.with.Goals as goal
 
 pub returns-then-i-ge64 : goal.returns-then-i-ge64

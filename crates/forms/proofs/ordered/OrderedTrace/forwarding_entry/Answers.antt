@@ -6,8 +6,8 @@ use Rattle.forms.proofs.ordered.OrderedTrace.forwarding_entry.Goals as goal
 pub bounds-self-e : goal.bounds-self-e
 bounds-self-e c = entry_below c.args.self.now.trace.contents c.args.e c.requires
 
-pub offset-bounds-self-e : goal.offset-bounds-self-e
-offset-bounds-self-e c = let below = bounds-self-e c in omega arith
+pub offset_bounds-self-e : goal.offset_bounds-self-e
+offset_bounds-self-e c = let below = bounds-self-e c in omega arith
 
 pub returns : goal.returns
 returns c =

@@ -1,14 +1,14 @@
 use Rattle.std.proofs.Common.{sym, ap, ◌∙◌}
 use Rattle.traces.specs.declared.entry.Entry.{Entry}
 use Rattle.forms.specs.Traced.{instructions_of}
-use Rattle.forms.specs.Entered.{entry_found, entry_missing}
+use Rattle.forms.specs.Lemmas.Entered.{entry_found, entry_missing}
 use Rattle.forms.proofs.Forwards.{written_past}
 use Rattle.forms.proofs.ordered.OrderedTrace.value_written.Goals as goal
 
-pub returns-in-default : goal.returns-in-default
-returns-in-default c =
+pub returns-in_default : goal.returns-in_default
+returns-in_default c =
     let is = instructions_of c.args.self.now.trace in
-    written_past is c.args.w (entry_missing is c.args.w (sym c.entry.ensures ∙ c.in-default.is))
+    written_past is c.args.w (entry_missing is c.args.w (sym c.entry.ensures ∙ c.in_default.is))
 
 pub returns : goal.returns
 returns c =

@@ -10,8 +10,8 @@ use Rattle.traces.specs.Adding.{same_address}
 use Rattle.forms.specs.Carrying.{contents, forwarded, forwarding, keeping, last_below, may_carry_out, seen, some_below, stored}
 use Rattle.forms.specs.Entries.{Earlier, SameAddress, instruction_at, reads_at, writes_at}
 use Rattle.forms.specs.PreservedOrder.{Preserved}
-use Rattle.forms.specs.Basics.{decides_same_address, last_below_none, last_below_same, last_below_some, some_below_fails, some_below_none, some_below_same}
-use Rattle.forms.specs.Steps.{Own, Sees}
+use Rattle.forms.specs.Lemmas.Basics.{decides_same_address, last_below_none, last_below_same, last_below_some, some_below_fails, some_below_none, some_below_same}
+use Rattle.forms.specs.Lemmas.Steps.{Own, Sees}
 
 -- an entry sees one value only
 pub sees_one : (is : List Instruction) (P : ℕ → Bool) (M : ℕ → ℕ) (e x y : ℕ) → Sees is P M e x → Sees is P M e y → x ≡ y

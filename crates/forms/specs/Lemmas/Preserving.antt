@@ -12,7 +12,7 @@ use Rattle.models.specs.Tables.{AtLeastAsStrict, Tables}
 use Rattle.forms.specs.Entries.{Earlier, instruction_at}
 use Rattle.forms.specs.KeptPairs.{KeepsNoFewerOf, is_earlier, keeps, waiting}
 use Rattle.forms.specs.PreservedOrder.{KeepsNoFewer, Laws, Preserved, preserved}
-use Rattle.forms.specs.Basics.{never}
+use Rattle.forms.specs.Lemmas.Basics.{never}
 
 -- the two laws of a model, at the entries of a trace
 pub preserved_laws : (m : Tables)

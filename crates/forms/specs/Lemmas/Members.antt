@@ -8,8 +8,8 @@ use Rattle.std.proofs.lemmas.Bool.{cases_Bool, cases_lt, cond-false, cond-true, 
 use Rattle.std.proofs.lemmas.Bool.Decides.{nat_tests}
 use Rattle.forms.specs.EntrySets.{LatestCommon, inserted, member, removed}
 use Rattle.forms.specs.declared.entry_set.EntrySet.{EntrySet}
-use Rattle.forms.specs.BinaryDigits.{and_not_power, digit_and, digit_beyond, digit_less, digit_less_other, digit_opposite, digit_or}
-use Rattle.forms.specs.BinaryDigits.{digit_power_other, digit_power_same, digit_top, or_less, or_more}
+use Rattle.forms.specs.Lemmas.BinaryDigits.{and_not_power, digit_and, digit_beyond, digit_less, digit_less_other, digit_opposite, digit_or}
+use Rattle.forms.specs.Lemmas.BinaryDigits.{digit_power_other, digit_power_same, digit_top, or_less, or_more}
 
 -- a member's digit is 1
 member_digit : (s : EntrySet) (i : ℕ) → member s i ≡ true → s.bits / 2 ^ i % 2 ≡ 1

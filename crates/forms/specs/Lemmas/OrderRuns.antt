@@ -17,13 +17,13 @@ use Rattle.forms.specs.OrderForms.{CanFinish, after_placing, kept_in, order_carr
 use Rattle.forms.specs.OrderMachine.{OrderPosition, all_placed, order_opening, place, placing, places}
 use Rattle.forms.specs.PreservedOrder.{Laws, Preserved}
 use Rattle.forms.specs.Runs.{Reaches, carried_out, run}
-use Rattle.forms.specs.Counting.{count_one_less}
-use Rattle.forms.specs.Members.{member_inserted_other, member_inserted_same}
-use Rattle.forms.specs.Placing.{carried_places, lawful_order, order_lawful, place_ready}
-use Rattle.forms.specs.Remembering.{blank_at, with_word_length, word_stored}
-use Rattle.forms.specs.Simulation.{carried_alike, ruled_some, run_back, run_forth, run_keeps}
-use Rattle.forms.specs.Tabling.{tabled_laws}
-use Rattle.forms.specs.Weaker.{clipped_lawful}
+use Rattle.forms.specs.Lemmas.Counting.{count_one_less}
+use Rattle.forms.specs.Lemmas.Members.{member_inserted_other, member_inserted_same}
+use Rattle.forms.specs.Lemmas.Placing.{carried_places, lawful_order, order_lawful, place_ready}
+use Rattle.forms.specs.Lemmas.Remembering.{blank_at, with_word_length, word_stored}
+use Rattle.forms.specs.Lemmas.Simulation.{carried_alike, ruled_some, run_back, run_forth, run_keeps}
+use Rattle.forms.specs.Lemmas.Tabling.{tabled_laws}
+use Rattle.forms.specs.Lemmas.Weaker.{clipped_lawful}
 
 -- the empty set has no member
 member_none : (i : ℕ) → member empty_set i ≡ false

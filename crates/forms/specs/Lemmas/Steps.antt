@@ -7,7 +7,7 @@ use Rattle.traces.specs.declared.entry.Instruction.{Instruction}
 use Rattle.forms.specs.Entries.{Earlier, SameAddress, addressed_at, instruction_at, reads_at, writes_at}
 use Rattle.forms.specs.Lawful.{Candidate, Lawful, Precedes, Right, times}
 use Rattle.forms.specs.PreservedOrder.{Laws, Preserved}
-use Rattle.forms.specs.Basics.{cases_address, reads_addressed, slot_absent, slot_first, slot_rest, times_first, times_rest, writes_addressed}
+use Rattle.forms.specs.Lemmas.Basics.{cases_address, reads_addressed, slot_absent, slot_first, slot_rest, times_first, times_rest, writes_addressed}
 
 -- w writes the address of r, and precedes r in what is left of the order or is an unplaced entry earlier on r's thread
 abbrev pub CandidateFrom : List Instruction → (ℕ → Bool) → List ℕ → ℕ → ℕ → Type 0

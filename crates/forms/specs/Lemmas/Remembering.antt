@@ -18,8 +18,8 @@ use Rattle.forms.specs.declared.memory.Memory.{Memory}
 use Rattle.forms.specs.Carrying.{stored}
 use Rattle.forms.specs.Entries.{instruction_at, writes_at}
 use Rattle.forms.specs.Memories.{address_slot, blank, held_entry, with_word, word_at, word_of}
-use Rattle.forms.specs.Basics.{writes_addressed}
-use Rattle.forms.specs.Entered.{address_slot_below, address_slot_within, entry_address}
+use Rattle.forms.specs.Lemmas.Basics.{writes_addressed}
+use Rattle.forms.specs.Lemmas.Entered.{address_slot_below, address_slot_within, entry_address}
 
 -- addresses with one listed slot are the same
 slot_apart : (is : List Instruction) (a b : Address) → address_slot is b < length (addresses_of is) → address_slot is a ≡ address_slot is b → a ≡ b

@@ -1,10 +1,9 @@
 -- The tables of a preserved order: which entries are in their sets, and the laws that follow from that.
-use Rattle.std.specs.Prelude.{◌≡◌, ℕ, ◌<◌, Bool, true, false, not, ◌&&◌, ltb, List, length, Some, Decides, nat_lt}
+use Rattle.std.specs.Prelude.{◌≡◌, ℕ, ◌<◌, Bool, true, false, not, ◌&&◌, ltb, List, length, Some, nat_lt}
 use Rattle.std.proofs.Common.{sym, ◌∙◌, ap, ap₂, arith}
 use Rattle.std.proofs.Math.Path.{fun_ext}
 use Rattle.std.specs.List.{slice_get}
 use Rattle.std.proofs.lemmas.Bool.{and_from, and_parts, lt-ltb, ltb-true, not_from_false, not-true}
-use Rattle.std.proofs.lemmas.Bool.Decides.{Decides-eqb, same_from_decides}
 use Rattle.traces.specs.declared.entry.Instruction.{Instruction}
 use Rattle.traces.specs.Adding.{same_address}
 use Rattle.traces.specs.Kinds.{writes}
@@ -14,8 +13,8 @@ use Rattle.forms.specs.EntrySets.{member}
 use Rattle.forms.specs.KeptPairs.{clipped, is_earlier, keeps, waiting}
 use Rattle.forms.specs.OrderTables.{CoherentInTable, OnlyEarlier, PromptInTable, is_writer_before, set_at, tabled}
 use Rattle.forms.specs.PreservedOrder.{Laws, Preserved}
-use Rattle.forms.specs.Basics.{decides_same_address}
-use Rattle.forms.specs.Preserving.{earlier_found, earlier_from, earlier_parts, found, keeps_from}
+use Rattle.forms.specs.Lemmas.Basics.{decides_same_address}
+use Rattle.forms.specs.Lemmas.Preserving.{earlier_found, earlier_from, earlier_parts, found, keeps_from}
 
 -- an entry that waits is one of the trace
 pub waiting_below : (is : List Instruction) (p : Preserved) (i : ℕ) → waiting is p i ≡ true → i < length is
@@ -39,10 +38,8 @@ module _ (is : List Instruction) (e i : ℕ) (x y : Instruction) (at_i : slice_g
       rw (← (found is i x at_i).1, ← (found is e y at-e).1) h
 
   -- where the earlier entry writes, a test of the two addresses tells
-  pub writer_tested : true ≡ writes x.kind → (b : Bool) → Decides b (x.address.number ≡ y.address.number) → b ≡ is_writer_before is e i
-  writer_tested writing b test =
-      same_from_decides b (same_address x.address y.address) test (Decides-eqb x.address.number y.address.number)
-      ∙ ap (λ t. t && same_address x.address y.address) writing ∙ writer_found
+  pub writer_tested : true ≡ writes x.kind → (b : Bool) → b ≡ same_address x.address y.address → b ≡ is_writer_before is e i
+  writer_tested writing b test = test ∙ ap (λ t. t && same_address x.address y.address) writing ∙ writer_found
 
   -- an entry that does not write is none of the writers
   pub writer_silent : false ≡ writes x.kind → false ≡ is_writer_before is e i

@@ -8,9 +8,9 @@ use Rattle.forms.specs.Lawful.{Lawful}
 use Rattle.forms.specs.OrderMachine.{OrderPosition, all_placed, order_opening, place, places, placing, unplaced}
 use Rattle.forms.specs.PreservedOrder.{Laws, Preserved}
 use Rattle.forms.specs.Runs.{carried_out, listed_from, onward, run}
-use Rattle.forms.specs.Basics.{some_below_fails, some_below_none}
-use Rattle.forms.specs.Carry.{may_free, may_from, may_value, stored_here, stored_other}
-use Rattle.forms.specs.Steps.{Effect, From, Ready, backward, end_from, forward, from_end, lawful_in, lawful_out, ready_here}
+use Rattle.forms.specs.Lemmas.Basics.{some_below_fails, some_below_none}
+use Rattle.forms.specs.Lemmas.Carry.{may_free, may_from, may_value, stored_here, stored_other}
+use Rattle.forms.specs.Lemmas.Steps.{Effect, From, Ready, backward, end_from, forward, from_end, lawful_in, lawful_out, ready_here}
 
 -- an entry that is placed was ready
 pub place_ready : (is : List Instruction) (p : Preserved) (q after : OrderPosition) (e : ℕ) → place is p q e ≡ Some after
