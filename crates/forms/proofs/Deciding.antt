@@ -15,9 +15,21 @@ use Rattle.forms.specs.OrderMachine.{OrderPosition, all_placed, order_opening, p
 use Rattle.forms.specs.PreservedOrder.{Laws, Preserved, preserved}
 use Rattle.forms.specs.Runs.{onward, run}
 use Rattle.forms.specs.Lemmas.Basics.{some_below_decides}
-use Rattle.forms.specs.Lemmas.Counting.{count_all, count_none, count_one_less}
+use Rattle.forms.specs.Lemmas.Counting.{count_one_less, count_suc}
 use Rattle.forms.specs.Lemmas.Placing.{all_placed_each, lawful_order, order_lawful, place_effect, place_ready}
-use Rattle.forms.specs.Lemmas.Preserving.{preserved_laws}
+use Rattle.forms.proofs.Preserving.{preserved_laws}
+
+-- where every number below n passes, n are counted
+pub count_all : (p : ℕ → Bool) (n : ℕ) → ((i : ℕ) → i < n → p i ≡ true) → count_by p (range_with_len 0 n) ≡ n
+count_all p zero all = refl
+count_all p (suc n) all =
+    omega (arith, count_suc p n true (sym (all n (omega arith))), count_all p n (λ i below. all i (omega arith)))
+
+-- where no number below n passes, none is counted
+pub count_none : (p : ℕ → Bool) (n : ℕ) → ((i : ℕ) → i < n → p i ≡ false) → count_by p (range_with_len 0 n) ≡ 0
+count_none p zero none = refl
+count_none p (suc n) none =
+    omega (arith, count_suc p n false (sym (none n (omega arith))), count_none p n (λ i below. none i (omega arith)))
 
 -- what a test says of a position, if there is one
 abbrev pub passes : Option OrderPosition → (OrderPosition → Bool) → Bool

@@ -20,7 +20,8 @@ use Rattle.forms.specs.KeptPairs.{is_earlier}
 use Rattle.forms.specs.Memories.{address_slot}
 use Rattle.forms.specs.OrderTables.{OnlyEarlier, WritersInTable, set_at, tabled}
 use Rattle.forms.specs.Lemmas.Basics.{last_below_none, last_below_some, reads_addressed, some_below_decides, some_below_none}
-use Rattle.forms.specs.Lemmas.Entered.{address_slot_below, entry_address, entry_found}
+use Rattle.forms.specs.Lemmas.Entered.{address_slot_below, entry_address}
+use Rattle.forms.proofs.Entered.{entry_found}
 
 -- r is the largest number below k that passes, or `None` where no number below k passes
 abbrev Latest : (ℕ → Bool) → ℕ → Option ℕ → Type 0

@@ -1,7 +1,15 @@
+pub mod Agreeing
+pub mod BinaryDigits
 pub mod Building
 pub mod Deciding
+pub mod Entered
+pub mod Finishing
 pub mod Forwards
 pub mod Issuing
+pub mod Members
 pub mod OrderSteps
+pub mod Preserving
 pub mod Queues
 pub mod Ranks
+pub mod Tabling
+pub mod Weaker

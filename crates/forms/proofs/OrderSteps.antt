@@ -1,6 +1,8 @@
 -- The steps of the order form, as its code makes them.
-use Rattle.std.proofs.Common.{◌≡◌, ℕ, ◌<◌, ◌≤◌, Bool, true, false, not, ◌&&◌, ltb, length, Some, None, sym, refl, ap, ◌∙◌, subst, arith}
+use Rattle.std.proofs.Common.{◌≡◌, ℕ, ◌<◌, ◌≤◌, Bool, true, false, cond, not, ◌&&◌, ltb, List, length, Some, None, Option, set-set, sym, refl, ap, ◌∙◌, subst, arith}
+use Rattle.std.specs.Prelude.{slice_index, slice_set}
 use Rattle.std.specs.List.{slice_get}
+use Rattle.std.proofs.lemmas.List.{set-get_or}
 use Rattle.std.proofs.lemmas.Bool.{and_from, and_left, and_right, cond-false, cond-true, le-ltb, lt-ltb, ltb-true, not_from_false, not_from_true}
 use Rattle.traces.specs.declared.entry.Entry.{Entry}
 use Rattle.traces.specs.Kinds.{writes}
@@ -14,13 +16,34 @@ use Rattle.forms.specs.EntrySets.{inserted, member, removed}
 use Rattle.forms.specs.Memories.{held_entry, with_word, word_at, word_of}
 use Rattle.forms.specs.OrderForms.{after_placing, kept_in, order_done, order_note, order_step, shown, traced}
 use Rattle.forms.specs.OrderMachine.{all_placed, place, placing, unplaced}
+use Rattle.forms.specs.Runs.{ruled}
 use Rattle.forms.specs.Lemmas.Basics.{some_below_decides, some_below_none, writes_addressed}
-use Rattle.forms.specs.Lemmas.Carry.{may_agree}
-use Rattle.forms.specs.Lemmas.Entered.{address_slot_below, entry_address, entry_found, entry_missing}
-use Rattle.forms.specs.Lemmas.Members.{removed_inserted}
+use Rattle.forms.specs.Lemmas.Entered.{address_slot_below, entry_address}
+use Rattle.forms.proofs.Entered.{entry_found, entry_missing}
+use Rattle.forms.proofs.Members.{removed_inserted}
 use Rattle.forms.specs.Lemmas.OrderRuns.{order_within, step_below, step_fresh}
-use Rattle.forms.specs.Lemmas.Remembering.{word_put_back}
-use Rattle.forms.specs.Lemmas.Simulation.{ruled_from, ruled_none, ruled_some}
+use Rattle.forms.specs.Lemmas.Simulation.{ruled_some}
+use Rattle.forms.proofs.Agreeing.{may_agree}
+
+-- a step that the rules allow
+pub ruled_from : {S T : Type 0} (answer : Option T) (u : S) (v : T) → answer ≡ Some v → ruled answer u ≡ Some u
+ruled_from answer u v h = ap (λ a. ruled a u) h
+
+-- a step that the rules refuse
+pub ruled_none : {S T : Type 0} (answer : Option T) (u : S) → answer ≡ None → ruled answer u ≡ None
+ruled_none answer u h = ap (λ a. ruled a u) h
+
+-- memory with another word, where a test says so
+abbrev changed : Memory → ℕ → ℕ → Bool → Memory
+changed m n w b = cond b (record { words = slice_set m.words n w }) m
+
+-- the word put back is the one that was there
+pub word_put_back : (m : Memory) (e : Entry) (w : ℕ) → with_word (with_word m e w) e (word_of m e) ≡ m
+word_put_back m e w = go (writes e.kind)
+  where
+    go : (b : Bool) → changed (changed m e.address w b) e.address (cond b (slice_index m.words e.address) 0) b ≡ m
+    go true = ap (λ (l : List ℕ). record { words = l }) (set-set m.words e.address w (slice_index m.words e.address) ∙ set-get_or m.words e.address 0)
+    go false = refl
 
 module _ {X : Type 0} (f : OrderForm X) (e : ℕ) where
   -- whether the rules allow entry e

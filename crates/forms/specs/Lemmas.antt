@@ -7,9 +7,7 @@ pub mod Entered
 pub mod Members
 pub mod OrderRuns
 pub mod Placing
-pub mod Preserving
 pub mod Remembering
 pub mod Simulation
 pub mod Steps
-pub mod Tabling
-pub mod Weaker
+pub mod Tabled

@@ -36,7 +36,8 @@ impl OrderedTrace {
 
     // The value that a reading entry sees: the forwarding entry's, if there is one, or else memory's.
     fn value_seen(&self, e: usize, entry: Entry, pending: EntrySet, memory: &Memory) -> u64
-        requires { (slice_get (entries_of (instructions_of self.now.trace)) e ≡ Some entry) × (reads entry.kind ≡ true) }
+        requires found { slice_get (entries_of (instructions_of self.now.trace)) e ≡ Some entry }
+        requires reads { reads entry.kind ≡ true }
         ensures { result ≡ seen (instructions_of self.now.trace) (member pending) (word_at (instructions_of self.now.trace) memory.now) e }
     {
         match self.forwarding_entry(e, pending) {

@@ -1,16 +1,12 @@
 // The order form's moves.
-ghost use Rattle.std.specs.Prelude.{◌≡◌, not, ◌↔◌};
+ghost use Rattle.std.specs.Prelude.{◌≡◌, ◌↔◌};
 ghost use Rattle.models.specs.Meaning.{tables_of};
 ghost use Rattle.forms.specs.KeptPairs.{clipped};
 ghost use Rattle.forms.specs.Lawful.{Allows};
 ghost use Rattle.forms.specs.OrderForms.{CanFinish, kept_in, order_carries, order_done, order_left, order_note, order_start, order_step, traced};
 ghost use Rattle.forms.specs.Traced.{instructions_of, order_of};
-ghost use Rattle.forms.specs.Lemmas.OrderRuns.{order_within, order_lowers, order_sound, order_complete};
-ghost use Rattle.std.proofs.Common.{arith, rules};
-ghost use Rattle.std.proofs.lemmas.List.FromFn.{length-range_with_len};
-ghost use Rattle.std.proofs.lemmas.List.Sums.{count_by-le-length};
-ghost use Rattle.std.specs.List.{range_with_len};
-ghost use Rattle.forms.specs.EntrySets.{member};
+ghost use Rattle.forms.specs.Lemmas.OrderRuns.{order_bounded, order_complete, order_lowers, order_sound, order_within};
+ghost use Rattle.std.proofs.Common.{rules};
 
 use crate::entry_set::EntrySet;
 use crate::form::Form;
@@ -54,7 +50,7 @@ impl<M: Model> Form for OrderForm<M> {
 
     ghost lowers = { λ p q code step. order_lowers p q code step };
 
-    ghost bounded = { λ p. omega (arith, count_by-le-length (λ i. not (member p.placed i)) (range_with_len 0 64), length-range_with_len 0 64) };
+    ghost bounded = { λ p. order_bounded p };
 
     ghost sound = { λ p q codes reached finished. order_sound p q codes reached finished };
 

@@ -1,6 +1,6 @@
 -- Orders at their first entry, searches below a number, and which entries have an address.
-use Rattle.std.specs.Prelude.{◌≡◌, ℕ, zero, suc, ◌<◌, ◌≤◌, Bool, true, false, cond, ◌||◌, ◌≢◌, ◌⊎◌, List, [], ◌∷◌, Some, None, Decides, ◌==◌, nat_eq, refl}
-use Rattle.std.proofs.Common.{sym, ◌∙◌, ap, inl, inr, arith}
+use Rattle.std.specs.Prelude.{◌≡◌, ℕ, zero, suc, ◌<◌, ◌≤◌, Bool, true, false, cond, ◌≢◌, ◌⊎◌, List, [], ◌∷◌, Some, None, Decides, ◌==◌, nat_eq, refl}
+use Rattle.std.proofs.Common.{sym, ◌∙◌, inl, inr, arith}
 use Rattle.std.proofs.lemmas.List.Sums.{sum_by-cons}
 use Rattle.std.proofs.lemmas.Bool.{both_ways, cases_Bool, cases_eq, cond-false, cond-true, eq-eqb, ne_eqb}
 use Rattle.std.proofs.lemmas.Bool.Decides.{Decides-below_or, not_from_Decides}
@@ -134,14 +134,3 @@ cases_address is i j =
       | inl same ↦ inl (decided.0 same)
       | inr different ↦ inr (not_from_Decides (same_address (instruction_at is i).address (instruction_at is j).address) decided different)
     ]
-
--- tests that agree below k find the same
-pub some_below_same : (f g : ℕ → Bool) (k : ℕ) → ((i : ℕ) → i < k → f i ≡ g i) → some_below f k ≡ some_below g k
-some_below_same f g zero agree = refl
-some_below_same f g (suc k) agree =
-    ap (λ b. b || some_below f k) (agree k (omega arith)) ∙ ap (λ b. g k || b) (some_below_same f g k (λ i below. agree i (omega arith)))
-
-pub last_below_same : (f g : ℕ → Bool) (k : ℕ) → ((i : ℕ) → i < k → f i ≡ g i) → last_below f k ≡ last_below g k
-last_below_same f g zero agree = refl
-last_below_same f g (suc k) agree =
-    ap (λ b. cond b (Some k) (last_below f k)) (agree k (omega arith)) ∙ ap (λ o. cond (g k) (Some k) o) (last_below_same f g k (λ i below. agree i (omega arith)))

@@ -1,5 +1,5 @@
 -- Whether an entry may be carried out, by the test of it, and what memory holds after it; for any pending entries and any memory.
-use Rattle.std.specs.Prelude.{◌≡◌, ℕ, ◌<◌, ◌≤◌, Bool, true, false, not, ◌&&◌, ◌||◌, List, Some, None, Option, ◌==◌, ◌≢◌}
+use Rattle.std.specs.Prelude.{◌≡◌, ℕ, ◌<◌, ◌≤◌, Bool, true, false, not, ◌&&◌, List, Some, None, Option, ◌==◌, ◌≢◌}
 use Rattle.std.proofs.Math.Path.{refl, subst}
 use Rattle.std.proofs.Common.{sym, ◌∙◌, ap, arith}
 use Rattle.std.proofs.Math.Logic.{inl, inr}
@@ -10,7 +10,7 @@ use Rattle.traces.specs.Adding.{same_address}
 use Rattle.forms.specs.Carrying.{contents, forwarded, forwarding, keeping, last_below, may_carry_out, seen, some_below, stored}
 use Rattle.forms.specs.Entries.{Earlier, SameAddress, instruction_at, reads_at, writes_at}
 use Rattle.forms.specs.PreservedOrder.{Preserved}
-use Rattle.forms.specs.Lemmas.Basics.{decides_same_address, last_below_none, last_below_same, last_below_some, some_below_fails, some_below_none, some_below_same}
+use Rattle.forms.specs.Lemmas.Basics.{decides_same_address, last_below_none, last_below_some, some_below_fails, some_below_none}
 use Rattle.forms.specs.Lemmas.Steps.{Own, Sees}
 
 -- an entry sees one value only
@@ -123,16 +123,3 @@ stored_other is memory e r writes-not = elim (cases_Bool (writes_at is e)) [
       ]
   | inr no_write ↦ ap (λ (m : Address → ℕ). contents is m r) (cond-false (writes_at is e) _ _ no_write)
 ]
-
--- only what is pending before an entry tells whether it may be carried out
-pub may_agree : (is : List Instruction) (p : Preserved) (P Q : ℕ → Bool) (memory : Address → ℕ) (e : ℕ) → ((i : ℕ) → i < e → P i ≡ Q i)
-    → may_carry_out is p P memory e ≡ may_carry_out is p Q memory e
-unfolding may_carry_out seen keeping forwarding
-may_agree is p P Q memory e agree =
-    let kept : some_below (keeping is p P e) e ≡ some_below (keeping is p Q e) e =
-    some_below_same (keeping is p P e) (keeping is p Q e) e (λ i below. ap (λ b. ((instruction_at is i).thread == (instruction_at is e).thread) && (b && p.ahead i e)) (agree i below)) in
-    let forwards : last_below (forwarding is P e) e ≡ last_below (forwarding is Q e) e =
-    last_below_same (forwarding is P e) (forwarding is Q e) e
-    (λ i below. ap (λ b. ((instruction_at is i).thread == (instruction_at is e).thread) && (b && (writes_at is i && same_address (instruction_at is i).address (instruction_at is e).address))) (agree i below)) in
-    ap (λ b. not b && (not (reads_at is e) || (instruction_at is e).read == seen is P memory e)) kept
-    ∙ ap (λ o. not (some_below (keeping is p Q e) e) && (not (reads_at is e) || (instruction_at is e).read == forwarded is o (contents is memory e))) forwards

@@ -16,20 +16,8 @@ pub count_counting_more : (p : ℕ → Bool) (n : ℕ) (b : Bool) → b ≡ p n 
 count_counting_more p n b e = sum_counting_more (λ x. cond (p x) 1 0) n ∙ ap (λ t. count_by p (range_with_len 0 n) + cond t 1 0) (sym e)
 
 -- the same, with the number after n as it is in a recursion
-count_suc : (p : ℕ → Bool) (n : ℕ) (b : Bool) → b ≡ p n → count_by p (range_with_len 0 (suc n)) ≡ count_by p (range_with_len 0 n) + cond b 1 0
+pub count_suc : (p : ℕ → Bool) (n : ℕ) (b : Bool) → b ≡ p n → count_by p (range_with_len 0 (suc n)) ≡ count_by p (range_with_len 0 n) + cond b 1 0
 count_suc p n b e = let next : suc n ≡ n + 1 = omega arith in ap (λ k. count_by p (range_with_len 0 k)) next ∙ count_counting_more p n b e
-
--- where every number below n passes, n are counted
-pub count_all : (p : ℕ → Bool) (n : ℕ) → ((i : ℕ) → i < n → p i ≡ true) → count_by p (range_with_len 0 n) ≡ n
-count_all p zero all = refl
-count_all p (suc n) all =
-    omega (arith, count_suc p n true (sym (all n (omega arith))), count_all p n (λ i below. all i (omega arith)))
-
--- where no number below n passes, none is counted
-pub count_none : (p : ℕ → Bool) (n : ℕ) → ((i : ℕ) → i < n → p i ≡ false) → count_by p (range_with_len 0 n) ≡ 0
-count_none p zero none = refl
-count_none p (suc n) none =
-    omega (arith, count_suc p n false (sym (none n (omega arith))), count_none p n (λ i below. none i (omega arith)))
 
 -- where two tests agree below n, as many numbers pass the one as the other
 pub count_same : (p q : ℕ → Bool) (n : ℕ) → ((i : ℕ) → i < n → p i ≡ q i) → count_by p (range_with_len 0 n) ≡ count_by q (range_with_len 0 n)

@@ -1,72 +1,33 @@
--- Entries of a trace by their slots: the slots are few, and stand for thread numbers and addresses one to one.
-use Rattle.std.specs.Prelude.{◌≡◌, ℕ, ◌<◌, ◌≤◌, true, List, map, length, get_or, Some, None, vec_items, slice_index, slice_index_or}
-use Rattle.std.proofs.Common.{sym, ◌∙◌, ap, subst, inl, inr, arith}
-use Rattle.std.specs.List.{slice_get}
-use Rattle.std.proofs.lemmas.List.{get_or-map, length-map}
-use Rattle.std.proofs.lemmas.Option.{slice_get-get_or}
-use Rattle.std.proofs.lemmas.Bool.{cases_lt, cond-true}
+-- Entries of a trace by their slots: the slot of an entry's address is small.
+use Rattle.std.specs.Prelude.{◌≡◌, ℕ, ◌<◌, true, List, length, get_or, vec_items, slice_index_or}
+use Rattle.std.proofs.Common.{◌∙◌, ap, subst, arith}
+use Rattle.std.proofs.lemmas.List.{get_or-map}
+use Rattle.std.proofs.lemmas.Bool.{cond-true}
 use Rattle.traces.specs.declared.contents.Contents.{Contents}
 use Rattle.traces.specs.declared.entry.Entry.{Entry}
-use Rattle.traces.specs.declared.entry.Instruction.{Instruction}
 use Rattle.traces.specs.declared.entry.Kind.TheVariants.{Sync}
 use Rattle.traces.specs.Adding.{addresses_of, threads_of}
 use Rattle.traces.specs.Instructions.{instructions}
 use Rattle.traces.specs.Kinds.{address, addressed, instruction}
-use Rattle.traces.specs.Stated.{entries_of, entry_of, stated_by}
+use Rattle.traces.specs.Stated.{entry_of}
 use Rattle.traces.proofs.Holding.{entries_are, few_addresses, held, length_held}
-use Rattle.traces.proofs.Stating.{nth_within}
-use Rattle.forms.specs.Entries.{SameAddress, addressed_at, instruction_at}
+use Rattle.forms.specs.Entries.{addressed_at, instruction_at}
 use Rattle.forms.specs.Memories.{address_slot, held_entry}
-use Rattle.forms.specs.RulesMachine.{thread_slot}
-
--- an entry that is found is that of its instruction
-pub entry_found : (is : List Instruction) (e : ℕ) (r : Entry) → slice_get (entries_of is) e ≡ Some r → (e < length is) × (r ≡ held_entry is e)
-entry_found is e r h =
-    let f = entry_of (threads_of is) (addresses_of is) in
-    let w = nth_within (map f is) e r h in
-    let l : e < length is = omega (arith, w.0, length-map is f) in
-    (l, sym w.1 ∙ get_or-map f is e (instruction 0 Sync (address 0) 0 0) r l)
-
--- an entry that is not found is past the end
-pub entry_missing : (is : List Instruction) (e : ℕ) → slice_get (entries_of is) e ≡ None → length is ≤ e
-entry_missing is e h = elim (cases_lt e (length is)) [
-  | inl l ↦
-      let f = entry_of (threads_of is) (addresses_of is) in
-      let n : None ≡ Some (slice_index_or (map f is) e (held_entry is e)) = sym h ∙ slice_get-get_or (map f is) e (held_entry is e) (omega (arith, l, length-map is f)) in
-      absurd (let z : ◌≡◌ {A = ℕ} 0 1 = cc in omega arith)
-  | inr l ↦ l
-]
 
 module _ (x : Contents) (e : ℕ) (below : e < length (instructions x)) where
   abbrev es : List Entry
   es = vec_items x.entries
 
   -- the entry at the place e
-  here : get_or es e (held_entry (instructions x) e) ≡ held_entry (instructions x) e
+  pub here : get_or es e (held_entry (instructions x) e) ≡ held_entry (instructions x) e
   here =
       let f = entry_of (threads_of (instructions x)) (addresses_of (instructions x)) in
       subst (λ l. slice_index_or l e (held_entry (instructions x) e) ≡ held_entry (instructions x) e) (entries_are x)
       (get_or-map f (instructions x) e (instruction 0 Sync (address 0) 0 0) (held_entry (instructions x) e) below)
 
-  within : e < length es
+  -- it is there
+  pub within : e < length es
   within = omega (arith, below, length_held x, x.entries.ok.0)
-
-  -- the instruction at the place e by the slots of the entry
-  stands : instruction_at (instructions x) e ≡ stated_by (vec_items x.threads) (vec_items x.addresses) (held_entry (instructions x) e)
-  stands =
-      get_or-map (stated_by (vec_items x.threads) (vec_items x.addresses)) es e (held_entry (instructions x) e) (instruction 0 Sync (address 0) 0 0) within
-      ∙ ap (stated_by (vec_items x.threads) (vec_items x.addresses)) here
-
-  -- a thread's slot is below 8
-  pub thread_slot_below : thread_slot (instructions x) e < 8
-  thread_slot_below =
-      let n = (held x).named_t e (held_entry (instructions x) e) within in
-      let s = ap (λ (r : Entry). r.thread) here in
-      omega (arith, n, s, x.threads.ok.0, x.few_threads)
-
-  -- the thread number is the one that the slot names
-  pub thread_named : (instruction_at (instructions x) e).thread ≡ slice_index (vec_items x.threads) (thread_slot (instructions x) e)
-  thread_named = ap (λ (i : Instruction). i.thread) stands
 
   module _ (on : addressed_at (instructions x) e ≡ true) where
     -- the entry holds the slot of its address
@@ -84,21 +45,3 @@ module _ (x : Contents) (e : ℕ) (below : e < length (instructions x)) where
     -- an address's slot is below 16
     pub address_slot_below : address_slot (instructions x) (instruction_at (instructions x) e).address < 16
     address_slot_below = omega (arith, address_slot_within, few_addresses x)
-
-    -- the address is the one that the slot names
-    pub address_named : (instruction_at (instructions x) e).address ≡ slice_index_or (vec_items x.addresses) (address_slot (instructions x) (instruction_at (instructions x) e).address) (address 0)
-    address_named =
-        ap (λ (i : Instruction). i.address) stands
-        ∙ cond-true (addressed_at (instructions x) e) _ (address 0) on
-        ∙ ap (λ n. get_or (vec_items x.addresses) n (address 0)) entry_address
-
--- two entries with one slot are of one thread
-pub same_thread : (x : Contents) (i j : ℕ) → i < length (instructions x) → j < length (instructions x)
-    → thread_slot (instructions x) i ≡ thread_slot (instructions x) j → (instruction_at (instructions x) i).thread ≡ (instruction_at (instructions x) j).thread
-same_thread x i j l m h = thread_named x i l ∙ ap (λ n. slice_index (vec_items x.threads) n) h ∙ sym (thread_named x j m)
-
--- two entries with one slot are on one address
-pub same_address_held : (x : Contents) (i j : ℕ) → i < length (instructions x) → j < length (instructions x)
-    → addressed_at (instructions x) i ≡ true → addressed_at (instructions x) j ≡ true
-    → address_slot (instructions x) (instruction_at (instructions x) i).address ≡ address_slot (instructions x) (instruction_at (instructions x) j).address → SameAddress (instructions x) i j
-same_address_held x i j l m a b h = address_named x i l a ∙ ap (λ n. get_or (vec_items x.addresses) n (address 0)) h ∙ sym (address_named x j m b)

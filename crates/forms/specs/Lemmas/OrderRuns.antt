@@ -1,29 +1,29 @@
 -- The order form makes the runs of the order machine.
-use Rattle.std.specs.Prelude.{◌≡◌, ℕ, suc, ◌/◌, ◌%◌, ◌^◌, ◌<◌, Bool, true, false, not, ◌||◌, ◌↔◌, List, length, Some, Option, ◌==◌, refl}
+use Rattle.std.specs.Prelude.{◌≡◌, ℕ, suc, ◌/◌, ◌%◌, ◌^◌, ◌<◌, ◌≤◌, Bool, true, false, not, ◌||◌, List, length, Some, Option, ◌==◌, refl}
 use Rattle.std.proofs.Common.{sym, ◌∙◌, subst, inl, inr, arith}
 use Rattle.std.proofs.Math.Path.{ap, fun_ext}
 use Rattle.std.proofs.Math.Nat.{zero-div}
+use Rattle.std.specs.List.{range_with_len}
+use Rattle.std.proofs.lemmas.List.FromFn.{length-range_with_len}
+use Rattle.std.proofs.lemmas.List.Sums.{count_by-le-length}
 use Rattle.std.proofs.lemmas.Bool.{cases_eq, eq-eqb, ne_eqb}
 use Rattle.traces.specs.declared.entry.Address.{Address}
-use Rattle.traces.specs.declared.entry.Instruction.{Instruction}
 use Rattle.traces.proofs.Holding.{few_entries}
 use Rattle.forms.specs.declared.entry_set.EntrySet.{EntrySet}
 use Rattle.forms.specs.declared.order_form.OrderForm.{OrderForm}
 use Rattle.forms.specs.EntrySets.{empty_set, inserted, member}
-use Rattle.forms.specs.KeptPairs.{clipped}
 use Rattle.forms.specs.Lawful.{Lawful}
 use Rattle.forms.specs.Memories.{blank, held_entry, word_at}
-use Rattle.forms.specs.OrderForms.{CanFinish, after_placing, kept_in, order_carries, order_done, order_left, order_start, order_step, shown, traced}
+use Rattle.forms.specs.OrderForms.{after_placing, kept_in, order_carries, order_done, order_left, order_start, order_step, shown, traced}
 use Rattle.forms.specs.OrderMachine.{OrderPosition, all_placed, order_opening, place, placing, places}
-use Rattle.forms.specs.PreservedOrder.{Laws, Preserved}
+use Rattle.forms.specs.PreservedOrder.{Laws}
 use Rattle.forms.specs.Runs.{Reaches, carried_out, run}
 use Rattle.forms.specs.Lemmas.Counting.{count_one_less}
 use Rattle.forms.specs.Lemmas.Members.{member_inserted_other, member_inserted_same}
 use Rattle.forms.specs.Lemmas.Placing.{carried_places, lawful_order, order_lawful, place_ready}
 use Rattle.forms.specs.Lemmas.Remembering.{blank_at, with_word_length, word_stored}
 use Rattle.forms.specs.Lemmas.Simulation.{carried_alike, ruled_some, run_back, run_forth, run_keeps}
-use Rattle.forms.specs.Lemmas.Tabling.{tabled_laws}
-use Rattle.forms.specs.Lemmas.Weaker.{clipped_lawful}
+use Rattle.forms.specs.Lemmas.Tabled.{tabled_laws}
 
 -- the empty set has no member
 member_none : (i : ℕ) → member empty_set i ≡ false
@@ -121,19 +121,9 @@ module _ {X : Type 0} where
         carried f o reached.0 reached.1,
       )
 
-  -- where the form's preserved order is that of a trace, all entries can be placed exactly where a lawful order exists
-  pub can_finish : (f : OrderForm X) (is : List Instruction) (p : Preserved) → traced f ≡ is → kept_in f ≡ clipped is p
-      → CanFinish f ↔ ((o : List ℕ) × Lawful is p o)
-  can_finish f is p same order = (
-    λ c.
-        let lawful = order_sound f c.1 c.0 c.2 c.3 in
-        let o = carried_out order_step order_carries (order_start f) c.0 in
-        (o, (clipped_lawful is p o).0 (subst (λ k. Lawful is k o) order (subst (λ l. Lawful l (kept_in f) o) same lawful))),
-    λ l.
-        let lawful = (clipped_lawful is p l.0).1 l.1 in
-        let r = order_complete f l.0 (subst (λ m. Lawful m (kept_in f) l.0) (sym same) (subst (λ k. Lawful is k l.0) (sym order) lawful)) in
-        (r.0, r.1, r.2, r.3),
-  )
+  -- at most the entries that a trace can have are left to place
+  pub order_bounded : (p : OrderForm X) → order_left p ≤ 128
+  order_bounded p = omega (arith, count_by-le-length (λ i. not (member p.placed i)) (range_with_len 0 64), length-range_with_len 0 64)
 
   module _ (p q : OrderForm X) (e : ℕ) (h : order_step p e ≡ Some q) where
     allowed : (v : OrderPosition) × (rules p (shown p) e ≡ Some v) × (q ≡ after_placing p e)

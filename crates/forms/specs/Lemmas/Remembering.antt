@@ -1,9 +1,9 @@
 -- Memory by slots is memory by addresses.
-use Rattle.std.specs.Prelude.{◌≡◌, ℕ, ◌<◌, Bool, true, false, cond, ◌≢◌, List, length, replicate, slice_index, slice_index_or, slice_set, refl}
+use Rattle.std.specs.Prelude.{◌≡◌, ℕ, ◌<◌, true, cond, ◌≢◌, List, length, replicate, slice_index, slice_index_or, slice_set}
 use Rattle.std.proofs.Math.Path.{sym, ap, fun_ext}
-use Rattle.std.proofs.Common.{◌∙◌, subst, arith, set-set}
+use Rattle.std.proofs.Common.{◌∙◌, subst, arith}
 use Rattle.std.proofs.Math.Logic.{inl, inr}
-use Rattle.std.proofs.lemmas.List.{get_or_past, get_or-replicate, get_or-set_other, get_or-set_same, length-replicate, length-set, set-get_or}
+use Rattle.std.proofs.lemmas.List.{get_or_past, get_or-replicate, get_or-set_other, get_or-set_same, length-replicate, length-set}
 use Rattle.std.proofs.lemmas.Bool.{both_ways, cases_Bool, cases_lt, cond-false, cond-true}
 use Rattle.traces.specs.declared.contents.Contents.{Contents}
 use Rattle.traces.specs.declared.entry.Address.{Address}
@@ -17,7 +17,7 @@ use Rattle.traces.proofs.Stating.{same_addresses}
 use Rattle.forms.specs.declared.memory.Memory.{Memory}
 use Rattle.forms.specs.Carrying.{stored}
 use Rattle.forms.specs.Entries.{instruction_at, writes_at}
-use Rattle.forms.specs.Memories.{address_slot, blank, held_entry, with_word, word_at, word_of}
+use Rattle.forms.specs.Memories.{address_slot, blank, held_entry, with_word, word_at}
 use Rattle.forms.specs.Lemmas.Basics.{writes_addressed}
 use Rattle.forms.specs.Lemmas.Entered.{address_slot_below, address_slot_within, entry_address}
 
@@ -81,15 +81,3 @@ with_word_length m e w sized = elim (cases_Bool (writes e.kind)) [
   | inl written ↦ ap (λ (x : Memory). length x.words) (cond-true (writes e.kind) _ m written) ∙ length-set m.words e.address w ∙ sized
   | inr silent ↦ ap (λ (x : Memory). length x.words) (cond-false (writes e.kind) _ m silent) ∙ sized
 ]
-
--- memory with another word, where a test says so
-abbrev changed : Memory → ℕ → ℕ → Bool → Memory
-changed m n w b = cond b (record { words = slice_set m.words n w }) m
-
--- the word put back is the one that was there
-pub word_put_back : (m : Memory) (e : Entry) (w : ℕ) → with_word (with_word m e w) e (word_of m e) ≡ m
-word_put_back m e w = go (writes e.kind)
-  where
-    go : (b : Bool) → changed (changed m e.address w b) e.address (cond b (slice_index m.words e.address) 0) b ≡ m
-    go true = ap (λ (l : List ℕ). record { words = l }) (set-set m.words e.address w (slice_index m.words e.address) ∙ set-get_or m.words e.address 0)
-    go false = refl

@@ -12,14 +12,6 @@ pub ruled_some : {S T : Type 0} (answer : Option T) (u w : S) → ruled answer u
 ruled_some None u w h = none_some w h
 ruled_some (Some v) u w h = (v, refl, cc)
 
--- a step that the rules allow
-pub ruled_from : {S T : Type 0} (answer : Option T) (u : S) (v : T) → answer ≡ Some v → ruled answer u ≡ Some u
-ruled_from answer u v h = ap (λ a. ruled a u) h
-
--- a step that the rules refuse
-pub ruled_none : {S T : Type 0} (answer : Option T) (u : S) → answer ≡ None → ruled answer u ≡ None
-ruled_none answer u h = ap (λ a. ruled a u) h
-
 module _ {S T : Type 0} (rules : S → T → ℕ → Option T) (shown : S → T) (after : S → ℕ → S) where
   abbrev step : S → ℕ → Option S
   step s c = ruled (rules s (shown s) c) (after s c)

@@ -1,7 +1,7 @@
 use Rattle.std.proofs.Common.{sym, ◌∙◌, inl, inr, arith}
 use Rattle.models.specs.Meaning.{tables_of}
 use Rattle.forms.specs.Traced.{instructions_of, order_of}
-use Rattle.forms.specs.Lemmas.Preserving.{keeps_apart, keeps_found, keeps_no_first, keeps_no_second, preserved_laws}
+use Rattle.forms.proofs.Preserving.{keeps_apart, keeps_found, keeps_no_first, keeps_no_second, preserved_laws}
 use Rattle.forms.proofs.order.keeps_ahead.Goals as goal
 
 pub returns-in_default : goal.returns-in_default

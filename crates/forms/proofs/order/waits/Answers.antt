@@ -1,7 +1,7 @@
 use Rattle.std.proofs.Common.{sym, ◌∙◌}
 use Rattle.models.specs.Meaning.{tables_of}
 use Rattle.forms.specs.Traced.{instructions_of, order_of}
-use Rattle.forms.specs.Lemmas.Preserving.{preserved_laws, waits_found, waits_missing}
+use Rattle.forms.proofs.Preserving.{preserved_laws, waits_found, waits_missing}
 use Rattle.forms.proofs.order.waits.Goals as goal
 
 pub returns-in_default : goal.returns-in_default

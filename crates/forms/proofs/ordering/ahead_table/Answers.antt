@@ -3,7 +3,7 @@ use Rattle.traces.proofs.Holding.{few_entries}
 use Rattle.forms.specs.KeptPairs.{keeps}
 use Rattle.forms.specs.Traced.{instructions_of, order_of}
 use Rattle.forms.proofs.Building.{filled_all, filled_more}
-use Rattle.forms.specs.Lemmas.Preserving.{keeps_parts}
+use Rattle.forms.proofs.Preserving.{keeps_parts}
 use Rattle.forms.proofs.ordering.ahead_table.Goals as goal
 
 pub loop-j-preserved : goal.loop-j-preserved

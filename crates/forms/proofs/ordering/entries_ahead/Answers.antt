@@ -3,7 +3,7 @@ use Rattle.traces.proofs.Holding.{few_entries}
 use Rattle.forms.specs.KeptPairs.{keeps}
 use Rattle.forms.specs.Traced.{instructions_of, order_of}
 use Rattle.forms.proofs.Building.{built_all, built_more}
-use Rattle.forms.specs.Lemmas.Preserving.{keeps_parts}
+use Rattle.forms.proofs.Preserving.{keeps_parts}
 use Rattle.forms.proofs.ordering.entries_ahead.Goals as goal
 
 pub loop-i-preserved : goal.loop-i-preserved

@@ -3,7 +3,7 @@ use Rattle.traces.proofs.Holding.{few_entries}
 use Rattle.forms.specs.KeptPairs.{waiting}
 use Rattle.forms.specs.Traced.{instructions_of, order_of}
 use Rattle.forms.proofs.Building.{built_all, built_more}
-use Rattle.forms.specs.Lemmas.Tabling.{waiting_below}
+use Rattle.forms.proofs.Tabling.{waiting_below}
 use Rattle.forms.proofs.ordering.waiting_entries.Goals as goal
 
 pub loop-i-preserved : goal.loop-i-preserved

@@ -3,7 +3,7 @@ use Rattle.traces.proofs.Holding.{few_entries}
 use Rattle.forms.specs.OrderTables.{is_writer_before}
 use Rattle.forms.specs.Traced.{instructions_of}
 use Rattle.forms.proofs.Building.{built_all, built_more}
-use Rattle.forms.specs.Lemmas.Tabling.{writer_below}
+use Rattle.forms.proofs.Tabling.{writer_below}
 use Rattle.forms.proofs.ordering.writers_before.Goals as goal
 
 pub loop-i-preserved : goal.loop-i-preserved

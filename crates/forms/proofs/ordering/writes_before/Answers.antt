@@ -1,7 +1,7 @@
 use Rattle.std.proofs.Common.{sym, ◌∙◌, inl, inr, arith}
 use Rattle.forms.specs.Traced.{instructions_of}
-use Rattle.forms.specs.Lemmas.Preserving.{earlier_apart, earlier_no_first, earlier_no_second}
-use Rattle.forms.specs.Lemmas.Tabling.{writer_apart, writer_silent, writer_tested}
+use Rattle.forms.proofs.Preserving.{earlier_apart, earlier_no_first, earlier_no_second}
+use Rattle.forms.proofs.Tabling.{writer_apart, writer_silent, writer_tested}
 use Rattle.forms.proofs.ordering.writes_before.Goals as goal
 
 pub returns-in_default : goal.returns-in_default

@@ -3,8 +3,8 @@ use Rattle.std.proofs.lemmas.Bool.{both_ways}
 use Rattle.models.specs.Meaning.{tables_of}
 use Rattle.forms.specs.PreservedOrder.{KeepsNoFewer}
 use Rattle.forms.specs.Traced.{instructions_of, order_of}
-use Rattle.forms.specs.Lemmas.Preserving.{no_fewer_all, no_fewer_each, preserved_strict}
-use Rattle.forms.specs.Lemmas.Weaker.{weaker}
+use Rattle.forms.proofs.Preserving.{no_fewer_all, no_fewer_each, preserved_strict}
+use Rattle.forms.proofs.Weaker.{weaker}
 use Rattle.forms.proofs.pairs.at_least_as_strict_on.Goals as goal
 
 pub returns-then-not-at_least_as_strict_before : goal.returns-then-not-at_least_as_strict_before

@@ -1,5 +1,5 @@
 use Rattle.std.proofs.Common.{◌-◌, ◌^◌, ◌<◌, arith}
-use Rattle.forms.specs.Lemmas.Members.{member_beyond, member_opposite}
+use Rattle.forms.proofs.Members.{member_beyond, member_opposite}
 use Rattle.forms.proofs.entry_set.EntrySet.complement.Goals as goal
 
 pub returns : goal.returns

@@ -1,7 +1,7 @@
 use Rattle.std.proofs.Common.{◌/◌, ◌^◌, ◌<◌, eqb, sym, ap, ◌∙◌, arith}
 use Rattle.std.proofs.lemmas.Nat.{and_mask}
 use Rattle.std.proofs.lemmas.Bool.{le-ltb}
-use Rattle.forms.specs.Lemmas.Members.{member_beyond}
+use Rattle.forms.proofs.Members.{member_beyond}
 use Rattle.forms.proofs.entry_set.EntrySet.contains.Goals as goal
 
 pub returns-then-i-lt64 : goal.returns-then-i-lt64

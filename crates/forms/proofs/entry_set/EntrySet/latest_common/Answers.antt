@@ -1,5 +1,5 @@
 use Rattle.std.proofs.Common.{◌^◌, ◌<◌, arith}
-use Rattle.forms.specs.Lemmas.Members.{latest_common, none_common}
+use Rattle.forms.proofs.Members.{latest_common, none_common}
 use Rattle.forms.proofs.entry_set.EntrySet.latest_common.Goals as goal
 
 pub returns-then-common-eq0 : goal.returns-then-common-eq0

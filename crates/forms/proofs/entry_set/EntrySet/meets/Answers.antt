@@ -2,7 +2,7 @@ use Rattle.std.proofs.Common.{◌-◌, ◌^◌, ◌<◌, arith}
 use lib.Bits.{bit_and}
 use lib.Count.{count_leading_zeros}
 use Rattle.std.proofs.lemmas.Bool.{eqb-false, eqb-true, not-false, not-true}
-use Rattle.forms.specs.Lemmas.Members.{latest_common, none_common}
+use Rattle.forms.proofs.Members.{latest_common, none_common}
 use Rattle.forms.proofs.entry_set.EntrySet.meets.Goals as goal
 
 pub returns : goal.returns

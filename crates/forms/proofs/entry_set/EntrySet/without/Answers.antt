@@ -1,7 +1,7 @@
 use Rattle.std.proofs.Common.{◌-◌, ◌^◌, ◌<◌, sym, ap, ◌∙◌, arith}
 use lib.Bits.{bit_and}
 use Rattle.std.proofs.lemmas.Nat.{one_shl}
-use Rattle.forms.specs.Lemmas.Members.{member_beyond, removed_below, removed_other}
+use Rattle.forms.proofs.Members.{member_beyond, removed_below, removed_other}
 use Rattle.forms.proofs.entry_set.EntrySet.without.Goals as goal
 
 pub returns-then-i-ge64 : goal.returns-then-i-ge64

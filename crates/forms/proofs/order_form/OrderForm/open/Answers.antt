@@ -4,7 +4,7 @@ use Rattle.forms.specs.declared.memory.Memory.{Memory}
 use Rattle.forms.specs.declared.order_form.OrderForm.{OrderForm}
 use Rattle.forms.specs.Memories.{blank}
 use Rattle.forms.specs.Traced.{instructions_of, order_of}
-use Rattle.forms.specs.Lemmas.OrderRuns.{can_finish}
+use Rattle.forms.proofs.Finishing.{can_finish}
 use Rattle.forms.proofs.order_form.OrderForm.open.Goals as goal
 
 pub returns : goal.returns

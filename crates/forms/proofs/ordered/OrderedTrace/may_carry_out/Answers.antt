@@ -1,7 +1,7 @@
 use Rattle.std.proofs.Common.{sym, ◌∙◌, arith}
 use Rattle.forms.specs.Memories.{word_at}
 use Rattle.forms.specs.Traced.{instructions_of}
-use Rattle.forms.specs.Lemmas.Entered.{entry_found}
+use Rattle.forms.proofs.Entered.{entry_found}
 use Rattle.forms.proofs.Forwards.{entry_below, free_no_read, free_reads, kept_back}
 use Rattle.forms.proofs.ordered.OrderedTrace.may_carry_out.Goals as goal
 

@@ -1,8 +1,8 @@
 use Rattle.std.proofs.Common.{refl}
 use Rattle.models.specs.Meaning.{tables_of}
 use Rattle.forms.specs.Traced.{instructions_of, order_of}
-use Rattle.forms.specs.Lemmas.Preserving.{preserved_laws}
-use Rattle.forms.specs.Lemmas.Tabling.{coherent_in_table, only_earlier, prompt_in_table, tabled_clipped}
+use Rattle.forms.proofs.Preserving.{preserved_laws}
+use Rattle.forms.proofs.Tabling.{coherent_in_table, only_earlier, prompt_in_table, tabled_clipped}
 use Rattle.forms.proofs.ordered.OrderedTrace.new.Goals as goal
 
 pub invariant_of-result : goal.invariant_of-result

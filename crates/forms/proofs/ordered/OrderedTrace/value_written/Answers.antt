@@ -1,7 +1,7 @@
 use Rattle.std.proofs.Common.{sym, ap, ◌∙◌}
 use Rattle.traces.specs.declared.entry.Entry.{Entry}
 use Rattle.forms.specs.Traced.{instructions_of}
-use Rattle.forms.specs.Lemmas.Entered.{entry_found, entry_missing}
+use Rattle.forms.proofs.Entered.{entry_found, entry_missing}
 use Rattle.forms.proofs.Forwards.{written_past}
 use Rattle.forms.proofs.ordered.OrderedTrace.value_written.Goals as goal
 

@@ -4,7 +4,7 @@ use Rattle.traces.specs.declared.entry.Instruction.{Instruction}
 use Rattle.forms.specs.KeptPairs.{clipped}
 use Rattle.forms.specs.Lawful.{Lawful}
 use Rattle.forms.specs.PreservedOrder.{KeepsNoFewer, Preserved}
-use Rattle.forms.specs.Lemmas.Preserving.{keeps_from, keeps_parts}
+use Rattle.forms.proofs.Preserving.{keeps_from, keeps_parts}
 
 -- a lawful order under p is one under each q that keeps no pair beyond those of p
 pub weaker : (is : List Instruction) (p q : Preserved) → KeepsNoFewer is p q → (o : List ℕ) → Lawful is p o → Lawful is q o

@@ -1,9 +1,9 @@
--- The tables of a preserved order: which entries are in their sets, and the laws that follow from that.
+-- The tables of a preserved order: which entries are in their sets, and what they have by that.
 use Rattle.std.specs.Prelude.{◌≡◌, ℕ, ◌<◌, Bool, true, false, not, ◌&&◌, ltb, List, length, Some, nat_lt}
 use Rattle.std.proofs.Common.{sym, ◌∙◌, ap, ap₂, arith}
 use Rattle.std.proofs.Math.Path.{fun_ext}
 use Rattle.std.specs.List.{slice_get}
-use Rattle.std.proofs.lemmas.Bool.{and_from, and_parts, lt-ltb, ltb-true, not_from_false, not-true}
+use Rattle.std.proofs.lemmas.Bool.{and_parts, lt-ltb, ltb-true, not-true}
 use Rattle.traces.specs.declared.entry.Instruction.{Instruction}
 use Rattle.traces.specs.Adding.{same_address}
 use Rattle.traces.specs.Kinds.{writes}
@@ -14,7 +14,7 @@ use Rattle.forms.specs.KeptPairs.{clipped, is_earlier, keeps, waiting}
 use Rattle.forms.specs.OrderTables.{CoherentInTable, OnlyEarlier, PromptInTable, is_writer_before, set_at, tabled}
 use Rattle.forms.specs.PreservedOrder.{Laws, Preserved}
 use Rattle.forms.specs.Lemmas.Basics.{decides_same_address}
-use Rattle.forms.specs.Lemmas.Preserving.{earlier_found, earlier_from, earlier_parts, found, keeps_from}
+use Rattle.forms.proofs.Preserving.{earlier_found, earlier_parts, found, keeps_from}
 
 -- an entry that waits is one of the trace
 pub waiting_below : (is : List Instruction) (p : Preserved) (i : ℕ) → waiting is p i ≡ true → i < length is
@@ -73,11 +73,3 @@ module _ (is : List Instruction) (p : Preserved) (s : EntrySet) (table : List En
   -- the tables have the preserved order, told of the entries of the trace alone
   pub tabled_clipped : tabled s table ≡ clipped is p
   tabled_clipped = ap₂ (λ f g. record { waits = f; ahead = g }) (fun_ext waits) (fun_ext (λ i. fun_ext (ahead i)))
-
--- a preserved order in tables has the two laws, if the tables have them
-pub tabled_laws : (is : List Instruction) (s : EntrySet) (table : List EntrySet) → PromptInTable is s table → CoherentInTable is table → Laws is (tabled s table)
-tabled_laws is s table prompt coherent = record {
-  prompt = λ i j er l w. prompt i j (and_from _ _ (earlier_from is i j er l) (not_from_false _ w));
-  coherent = λ i j er l on w same. coherent i j
-      (and_from _ _ (earlier_from is i j er l) (and_from _ _ on (and_from _ _ w ((decides_same_address (instruction_at is i).address (instruction_at is j).address).1 same))));
-}

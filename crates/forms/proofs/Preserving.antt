@@ -13,6 +13,7 @@ use Rattle.forms.specs.Entries.{Earlier, instruction_at}
 use Rattle.forms.specs.KeptPairs.{KeepsNoFewerOf, is_earlier, keeps, waiting}
 use Rattle.forms.specs.PreservedOrder.{KeepsNoFewer, Laws, Preserved, preserved}
 use Rattle.forms.specs.Lemmas.Basics.{never}
+use Rattle.forms.specs.Lemmas.Tabled.{earlier_from}
 
 -- the two laws of a model, at the entries of a trace
 pub preserved_laws : (m : Tables)
@@ -50,9 +51,6 @@ earlier_parts is i j h =
     let a = and_parts (nat_lt i j && nat_lt j (length is)) _ h in
     let b = and_parts (nat_lt i j) (nat_lt j (length is)) a.0 in
     ((ltb-true _ _ b.0, eqb-true _ _ a.1), ltb-true _ _ b.1)
-
-pub earlier_from : (is : List Instruction) (i j : ℕ) → Earlier is i j → j < length is → is_earlier is i j ≡ true
-earlier_from is i j er l = and_from _ _ (and_from _ _ (lt-ltb _ _ er.0) (lt-ltb _ _ l)) (eq-eqb _ _ er.1)
 
 -- no entry that is not there is an earlier one
 pub earlier_no_first : (is : List Instruction) (i j : ℕ) → slice_get is i ≡ None → false ≡ is_earlier is i j
