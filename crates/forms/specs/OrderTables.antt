@@ -10,7 +10,7 @@ use Rattle.forms.specs.PreservedOrder.{Preserved}
 
 -- the set of entry j in a table; past its end, the empty set
 abbrev pub set_at : List EntrySet → ℕ → EntrySet
-set_at table j = slice_index_or table j (empty_set)
+set_at table j = slice_index_or table j empty_set
 
 -- the preserved order in which those of a set wait, and the entries in the set of j keep ahead of j
 abbrev pub tabled : EntrySet → List EntrySet → Preserved

@@ -1,6 +1,5 @@
 // Carrying out an entry: what keeps it back, and the value that it sees. Both forms do it alike.
-ghost use Rattle.std.specs.Prelude.{◌≡◌, ◌<◌, true, length, Some};
-ghost use Rattle.std.specs.List.{slice_get};
+ghost use Rattle.std.specs.Prelude.{◌≡◌, ◌<◌, true, length, slice_get, Some};
 ghost use Rattle.traces.specs.Kinds.{reads};
 ghost use Rattle.traces.specs.Stated.{entries_of};
 ghost use Rattle.forms.specs.Carrying.{forwarding, last_below, may_carry_out, seen};

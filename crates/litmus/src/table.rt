@@ -1,6 +1,5 @@
 // The litmus tests of the field.
-ghost use Rattle.std.specs.Prelude.{◌≡◌, map};
-ghost use Rattle.std.specs.List.{All};
+ghost use Rattle.std.specs.Prelude.{◌≡◌, map, All};
 ghost use Rattle.litmus.specs.Table.{Holds, row_of, table};
 
 use crate::event::{Event, LitmusTest};

@@ -1,6 +1,5 @@
 // Lines and tokens from bytes.
-ghost use Rattle.std.specs.Prelude.{◌≡◌, ◌+◌, ◌<◌, ◌≤◌, length, drop, IfSome, ◌==◌};
-ghost use Rattle.std.specs.Option.{option_map};
+ghost use Rattle.std.specs.Prelude.{◌≡◌, ◌+◌, ◌<◌, ◌≤◌, length, drop, option_map, IfSome, ◌==◌};
 ghost use Rattle.std.specs.List.{prefix_len};
 ghost use Rattle.text.specs.Lines.{is_end};
 ghost use Rattle.text.specs.Places.{SameLine, Starts, at, behind, first_line, left, tok};

@@ -1,5 +1,5 @@
 -- The instructions that entries stand for, by the thread numbers and addresses that their slots name.
-use Rattle.std.specs.Prelude.{◌≡◌, ℕ, ◌+◌, ◌<◌, max, true, cond, List, [], ◌∷◌, map, length, get_or, nat_eq, slice_index, slice_index_or}
+use Rattle.std.specs.Prelude.{◌≡◌, ℕ, ◌+◌, ◌<◌, max, true, cond, List, [], ◌∷◌, map, length, nat_eq, slice_index, slice_index_or}
 use Rattle.traces.specs.declared.entry.Address.{Address}
 use Rattle.traces.specs.declared.entry.Entry.{Entry}
 use Rattle.traces.specs.declared.entry.Instruction.{Instruction}
@@ -33,11 +33,11 @@ entry_of threads addresses i = record {
 
 -- the thread's slot of each entry names one of n thread numbers
 abbrev pub ThreadsNamed : ℕ → List Entry → Type 0
-ThreadsNamed n es = (k : ℕ) (d : Entry) → k < length es → (get_or es k d).thread < n
+ThreadsNamed n es = (k : ℕ) (d : Entry) → k < length es → (slice_index_or es k d).thread < n
 
 -- the address's slot of each entry that has one names one of n addresses
 abbrev pub AddressesNamed : ℕ → List Entry → Type 0
-AddressesNamed n es = (k : ℕ) (d : Entry) → k < length es → addressed (get_or es k d).kind ≡ true → (get_or es k d).address < n
+AddressesNamed n es = (k : ℕ) (d : Entry) → k < length es → addressed (slice_index_or es k d).kind ≡ true → (slice_index_or es k d).address < n
 
 -- an entry with 0 in the fields that its kind lacks
 abbrev pub cleared : Entry → Entry

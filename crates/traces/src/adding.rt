@@ -1,6 +1,5 @@
 // Instructions put at the end of what is held, and taken from there.
-ghost use Rattle.std.specs.Prelude.{◌≡◌, ◌<◌, max, true, [], length, take, IfOk, vec_len, vec_capacity};
-ghost use Rattle.std.specs.List.{slice_get};
+ghost use Rattle.std.specs.Prelude.{◌≡◌, ◌<◌, max, true, [], length, take, slice_get, IfOk, vec_len, vec_capacity};
 ghost use Rattle.traces.specs.Adding.{Leaves, admitted};
 ghost use Rattle.traces.specs.First.{SlotOf};
 ghost use Rattle.traces.specs.Instructions.{instructions};
@@ -107,7 +106,8 @@ impl Contents {
 
     // The instruction that an entry stands for.
     pub(crate) fn instruction_of(&self, entry: Entry) -> Instruction
-        requires { (entry.thread < vec_len self.now.threads) × (addressed entry.kind ≡ true → entry.address < vec_len self.now.addresses) }
+        requires thread { entry.thread < vec_len self.now.threads }
+        requires address { addressed entry.kind ≡ true → entry.address < vec_len self.now.addresses }
         ensures { result ≡ stated_by self.now.threads.items self.now.addresses.items entry }
     {
         Instruction {
@@ -163,7 +163,8 @@ fn larger(a: usize, b: usize) -> usize
 
 // How many threads and how many addresses the slots of entries name.
 fn named(entries: &[Entry]) -> (usize, usize)
-    requires { (ThreadsNamed 8 entries.now) × (AddressesNamed 16 entries.now) }
+    requires threads { ThreadsNamed 8 entries.now }
+    requires addresses { AddressesNamed 16 entries.now }
     ensures threads { result.0 ≡ reach thread_reach entries.now }
     ensures addresses { result.1 ≡ reach address_reach entries.now }
 {

@@ -1,6 +1,5 @@
 // Drafts, which grow, and traces, which are sealed drafts. Neither can be copied.
-ghost use Rattle.std.specs.Prelude.{◌≡◌, [], length, take, IfOk};
-ghost use Rattle.std.specs.List.{slice_get};
+ghost use Rattle.std.specs.Prelude.{◌≡◌, [], length, take, slice_get, IfOk};
 ghost use Rattle.traces.specs.Adding.{Leaves, added, addresses_of, threads_of};
 ghost use Rattle.traces.specs.Instructions.{instructions};
 ghost use Rattle.traces.specs.Stated.{entries_of};

@@ -7,17 +7,17 @@ use Rattle.std.proofs.lemmas.List.Sums.{sum-map}
 use Rattle.std.proofs.lemmas.Bool.{cases_eq}
 
 -- one number more
-pub sum_counting_more : (f : ℕ → ℕ) (n : ℕ) → sum_by f (range_with_len 0 (n + 1)) ≡ sum_by f (range_with_len 0 n) + f n
-sum_counting_more f n =
+pub sum_range_more : (f : ℕ → ℕ) (n : ℕ) → sum_by f (range_with_len 0 (n + 1)) ≡ sum_by f (range_with_len 0 n) + f n
+sum_range_more f n =
     sym (sum-map f (range_with_len 0 (n + 1))) ∙ (sum_by-map-range_with_len_more (λ x. x) f 0 n n (omega arith) ∙ ap (λ s. s + f n) (sum-map f (range_with_len 0 n)))
 
 -- the same where the numbers that pass a test are counted
-pub count_counting_more : (p : ℕ → Bool) (n : ℕ) (b : Bool) → b ≡ p n → count_by p (range_with_len 0 (n + 1)) ≡ count_by p (range_with_len 0 n) + cond b 1 0
-count_counting_more p n b e = sum_counting_more (λ x. cond (p x) 1 0) n ∙ ap (λ t. count_by p (range_with_len 0 n) + cond t 1 0) (sym e)
+pub count_range_more : (p : ℕ → Bool) (n : ℕ) (b : Bool) → b ≡ p n → count_by p (range_with_len 0 (n + 1)) ≡ count_by p (range_with_len 0 n) + cond b 1 0
+count_range_more p n b e = sum_range_more (λ x. cond (p x) 1 0) n ∙ ap (λ t. count_by p (range_with_len 0 n) + cond t 1 0) (sym e)
 
 -- the same, with the number after n as it is in a recursion
 pub count_suc : (p : ℕ → Bool) (n : ℕ) (b : Bool) → b ≡ p n → count_by p (range_with_len 0 (suc n)) ≡ count_by p (range_with_len 0 n) + cond b 1 0
-count_suc p n b e = let next : suc n ≡ n + 1 = omega arith in ap (λ k. count_by p (range_with_len 0 k)) next ∙ count_counting_more p n b e
+count_suc p n b e = let next : suc n ≡ n + 1 = omega arith in ap (λ k. count_by p (range_with_len 0 k)) next ∙ count_range_more p n b e
 
 -- where two tests agree below n, as many numbers pass the one as the other
 pub count_same : (p q : ℕ → Bool) (n : ℕ) → ((i : ℕ) → i < n → p i ≡ q i) → count_by p (range_with_len 0 n) ≡ count_by q (range_with_len 0 n)

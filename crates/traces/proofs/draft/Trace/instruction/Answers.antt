@@ -23,7 +23,7 @@ pub instruction_of-requires : goal.instruction_of-requires
 instruction_of-requires c =
     let held = c.args.self.now.contents in
     let e = c.in_ok-entry.entry in
-    let at = nth_within (vec_items held.entries) c.args.at e (sym c.entry.ensures ∙ c.in_ok-entry.was) in (
-      subst (λ (x : Entry). x.thread < vec_len held.threads) at.1 (held.threads_named c.args.at e at.0),
-      subst (λ (x : Entry). addressed x.kind ≡ true → x.address < vec_len held.addresses) at.1 (held.addresses_named c.args.at e at.0),
-    )
+    let at = nth_within (vec_items held.entries) c.args.at e (sym c.entry.ensures ∙ c.in_ok-entry.was) in record {
+      thread = subst (λ (x : Entry). x.thread < vec_len held.threads) at.1 (held.threads_named c.args.at e at.0);
+      address = subst (λ (x : Entry). addressed x.kind ≡ true → x.address < vec_len held.addresses) at.1 (held.addresses_named c.args.at e at.0);
+    }
