@@ -24,37 +24,37 @@ impl<M: Model> Form for OrderForm<M> {
 
     ghost limit = { 64 };
 
-    ghost instructions = { λ f. traced f };
+    ghost instructions = { traced };
 
-    ghost order = { λ f. kept_in f };
+    ghost order = { kept_in };
 
-    ghost opening = { λ f. order_start f };
+    ghost opening = { order_start };
 
-    ghost step = { λ f code. order_step f code };
+    ghost step = { order_step };
 
-    ghost note = { λ f code. order_note f code };
+    ghost note = { order_note };
 
-    ghost carries = { λ f code. order_carries f code };
+    ghost carries = { order_carries };
 
-    ghost finished = { λ f. order_done f };
+    ghost finished = { order_done };
 
-    ghost remainder = { λ f. order_left f };
+    ghost remainder = { order_left };
 
     ghost some = { Prim.search rules };
 
     ghost few = { Prim.search rules };
 
-    ghost within = { λ p q code step. order_within p q code step };
+    ghost within = { order_within };
 
     ghost stays = { Prim.search rules };
 
-    ghost lowers = { λ p q code step. order_lowers p q code step };
+    ghost lowers = { order_lowers };
 
-    ghost bounded = { λ p. order_bounded p };
+    ghost bounded = { order_bounded };
 
-    ghost sound = { λ p q codes reached finished. order_sound p q codes reached finished };
+    ghost sound = { order_sound };
 
-    ghost complete = { λ p o lawful. order_complete p o lawful };
+    ghost complete = { order_complete };
 
     fn limit() -> u32 {
         ORDER_CODES
