@@ -1,14 +1,14 @@
 -- One more instruction: when it is refused, and what is held once it is there.
-use Rattle.std.proofs.Common.{◌≡◌, ℕ, ◌<◌, ◌≤◌, Bool, true, false, cond, eqb, ltb, leb, List, [], ◌∷◌, ◌++◌, map, length, get_or, Some, None, Ok, Err, Option, sym, refl, ap, ◌∙◌, subst, arith}
+use Rattle.std.proofs.Common.{◌≡◌, ℕ, ◌<◌, ◌≤◌, Bool, true, false, cond, eqb, ltb, leb, List, [], ◌∷◌, ◌++◌, map, length, get_or, Some, None, Ok, Err, Option, ok_or, nat_lt, sym, refl, ap, ap₂, ◌∙◌, arith}
 use Rattle.std.proofs.lemmas.List.{map-append, length-map}
-use Rattle.std.proofs.lemmas.Bool.{cond-true, cond-false, le-leb, lt-leb, lt-ltb, le-ltb, both_ways}
+use Rattle.std.proofs.lemmas.Bool.{cond-true, cond-false, lt-leb, lt-ltb, le-ltb, ltb-true, ltb-false, both_ways}
 use Rattle.traces.specs.declared.entry.Address.{Address}
 use Rattle.traces.specs.declared.entry.Entry.{Entry}
 use Rattle.traces.specs.declared.entry.Instruction.{Instruction}
 use Rattle.traces.specs.declared.entry.Kind.{Kind}
-use Rattle.traces.specs.declared.entry.Refusal.TheVariants.{TooManyEntries, TooManyThreads, TooManyAddresses}
+use Rattle.traces.specs.declared.entry.Refusal.TheVariants.{TooManyThreads, TooManyAddresses}
 use Rattle.traces.specs.Adding.{same_address, thread_in, address_in, threads_of, addresses_of, admitted}
-use Rattle.traces.specs.First.{SlotOf}
+use Rattle.traces.specs.First.{SlotOf, SlotWithin}
 use Rattle.traces.specs.Kinds.{address, addressed, instruction, reads, writes}
 use Rattle.traces.specs.Slots.{slot, listed, listed_if_any, grown}
 use Rattle.traces.specs.Stated.{stated_by, stated, ThreadsNamed, AddressesNamed, cleared}
@@ -25,21 +25,43 @@ pub grown_joined : {X : Type 0} (same : X → X → Bool) (xs : List X) (o : Opt
 grown_joined same xs None s e = refl
 grown_joined same xs (Some x) s e = ap (λ n. cond (ltb n (length xs)) xs (xs ++ x ∷ [])) e
 
--- what a search finds is the slot, at thread numbers and at addresses
+-- what a search finds is the slot
+module _ {X : Type 0} (same : X → X → Bool) (law : Sameness same) (d : X) where
+  pub slot_searched : (xs : List X) (o : Option X) (s : ℕ) → SlotOf (λ y x r. r ≡ same y x) xs o s → s ≡ slot_in same xs o
+  slot_searched xs None s h = h
+  slot_searched xs (Some x) s h = sym (slot_search same law (λ y r. r ≡ same y x) x (λ y e. sym e) (λ y e. sym e) d xs s h)
+
+  -- where it is below the room, and where it is not
+  module _ {E : Type 0} (room : ℕ) (xs : List X) (o p : Option X) (is : p ≡ o) (r : Option ℕ) (h : SlotWithin (λ y x r. r ≡ same y x) room xs p r) (e : E) where
+    at : h.0 ≡ slot_in same xs o
+    at = slot_searched xs p h.0 h.1 ∙ ap (slot_in same xs) is
+
+    free : (b : Bool) → nat_lt h.0 room ≡ b → (k : ℕ) → ok_or (cond b (Some h.0) None) e ≡ Ok k → (k ≡ slot_in same xs o) × (k < room)
+    free true l k y = let z : h.0 ≡ k = cc in (sym z ∙ at, omega (arith, ltb-true _ _ l))
+    free false l k y = absurd cc
+
+    pub slot_free : (k : ℕ) → ok_or r e ≡ Ok k → (k ≡ slot_in same xs o) × (k < room)
+    slot_free k y = free (nat_lt h.0 room) refl k (ap (λ x. ok_or x e) (sym h.2) ∙ y)
+
+    full : (b : Bool) → nat_lt h.0 room ≡ b → (f : E) → ok_or (cond b (Some h.0) None) e ≡ Err f → (room ≤ slot_in same xs o) × (f ≡ e)
+    full true l f y = absurd cc
+    full false l f y = (omega (arith, ltb-false _ _ l, at), cc)
+
+    pub slot_full : (f : E) → ok_or r e ≡ Err f → (room ≤ slot_in same xs o) × (f ≡ e)
+    slot_full f y = full (nat_lt h.0 room) refl f (ap (λ x. ok_or x e) (sym h.2) ∙ y)
+
+-- the same at thread numbers and at addresses, and where the list that is searched equals another
 pub slot_number : (xs : List ℕ) (o : Option ℕ) (s : ℕ) → SlotOf (λ y x r. r ≡ eqb y x) xs o s → s ≡ slot_in eqb xs o
-slot_number xs None s h = h
-slot_number xs (Some x) s h = sym (slot_search eqb same_numbers (λ y r. r ≡ eqb y x) x (λ y d. sym d) (λ y d. sym d) 0 xs s h)
+slot_number = slot_searched eqb same_numbers 0
 
 pub slot_address : (xs : List Address) (o : Option Address) (s : ℕ) → SlotOf (λ y x r. r ≡ same_address y x) xs o s → s ≡ slot_in same_address xs o
-slot_address xs None s h = h
-slot_address xs (Some x) s h = sym (slot_search same_address same_addresses (λ y r. r ≡ same_address y x) x (λ y d. sym d) (λ y d. sym d) (address 0) xs s h)
+slot_address = slot_searched same_address same_addresses (address 0)
 
--- the same where the list that is searched equals another
 pub slot_number_at : (ys xs : List ℕ) (x s : ℕ) → ys ≡ xs → SlotOf (λ y z r. r ≡ eqb y z) ys (Some x) s → s ≡ slot eqb xs x
-slot_number_at ys xs x s e h = slot_number xs (Some x) s (subst (λ l. SlotOf (λ y z r. r ≡ eqb y z) l (Some x) s) e h)
+slot_number_at ys xs x s e h = slot_number ys (Some x) s h ∙ ap (λ l. slot eqb l x) e
 
 pub slot_address_at : (ys xs : List Address) (p o : Option Address) (s : ℕ) → ys ≡ xs → p ≡ o → SlotOf (λ y z r. r ≡ same_address y z) ys p s → s ≡ slot_in same_address xs o
-slot_address_at ys xs p o s e f h = slot_address xs o s (subst (λ l. SlotOf (λ y z r. r ≡ same_address y z) l o s) e (subst (λ q. SlotOf (λ y z r. r ≡ same_address y z) ys q s) f h))
+slot_address_at ys xs p o s e f h = slot_address ys p s h ∙ ap₂ (slot_in same_address) e f
 
 -- how long a list is once something is brought, if anything is
 pub length_joined : {X : Type 0} (same : X → X → Bool) (xs : List X) (o : Option X) (n : ℕ) → length xs ≤ n → slot_in same xs o < n → (length (listed_if_any same xs o) ≤ n) × (length xs ≤ length (listed_if_any same xs o))
@@ -153,10 +175,6 @@ module _ (ts : List ℕ) (ds : List Address) (es : List Entry) (t : ℕ) (k : Ki
     -- the same of addresses
     pub addresses_more : addresses_of (before ++ new ∷ []) ≡ more_addresses
     addresses_more = appearing_push same_address address_in [] before new ∙ ap (λ l. listed_if_any same_address l (address_in new)) (sym appear_d)
-
-    -- a draft that is full refuses
-    pub refused_entries : 64 ≤ length es → admitted before new ≡ Err TooManyEntries
-    refused_entries h = cond-true _ _ _ (le-leb 64 (length before) (omega (arith, length-map es (stated_by ts ds))))
 
     module _ (few : length es < 64) where
       some_left : leb 64 (length before) ≡ false

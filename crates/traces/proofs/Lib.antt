@@ -1,4 +1,5 @@
 pub mod Admitting
 pub mod Holding
+pub mod Remainders
 pub mod Slotting
 pub mod Stating

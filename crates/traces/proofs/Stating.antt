@@ -1,5 +1,5 @@
 -- The instructions that entries stand for, as entries come and go.
-use Rattle.std.proofs.Common.{◌≡◌, ℕ, zero, suc, ◌+◌, ◌<◌, max, Bool, true, false, cond, eqb, ◌⊎◌, List, [], ◌∷◌, ◌++◌, map, length, get_or, take, Some, None, Option, sym, refl, ap, ◌∙◌, subst, ⊎_elim, arith, Bor}
+use Rattle.std.proofs.Common.{◌≡◌, ℕ, zero, suc, ◌+◌, ◌<◌, max, Bool, true, false, cond, eqb, ◌⊎◌, fold, List, [], ◌∷◌, ◌++◌, map, length, get_or, take, Some, None, Option, sym, refl, ap, ◌∙◌, subst, ⊎_elim, arith, Bor}
 use Rattle.std.specs.List.{slice_get}
 use Rattle.std.specs.Option.{option_map}
 use Rattle.std.specs.Slice.{IsGetResult}
@@ -75,6 +75,15 @@ entries_again ts ds (e ∷ es) dt dd nt nd plain =
     ap (λ x. x ∷ map (entry_of ts ds) (stated ts ds es)) (entry_again ts ds e dt dd (each_head (λ x. x.thread < length ts) e es nt) (each_head (λ x. addressed x.kind ≡ true → x.address < length ds) e es nd) here)
     ∙ ap (λ l. e ∷ l) (entries_again ts ds es dt dd (each_tail (λ x. x.thread < length ts) e es nt) (each_tail (λ x. addressed x.kind ≡ true → x.address < length ds) e es nd) there)
 
+-- the most that is needed, from a number on
+most_from : (of : Entry → ℕ) (n : ℕ) (es : List Entry) → fold (λ most e. max most (of e)) n es ≡ max n (reach of es)
+most_from of n [] = omega arith
+most_from of n (e ∷ es) = omega (arith, most_from of (max n (of e)) es)
+
+-- the maximum of what is needed, or 0
+pub reach_fold : (of : Entry → ℕ) (es : List Entry) → fold (λ most e. max most (of e)) 0 es ≡ reach of es
+reach_fold of es = most_from of 0 es ∙ omega arith
+
 -- how much the entries that are kept need is how much they bring
 module _ {X : Type 0} (same : X → X → Bool) (law : Sameness same) (brings : Instruction → Option X) (of : Entry → ℕ) (f : Entry → Instruction) (whole : List X) where
   -- what an entry brings has the slot that it needs
@@ -95,12 +104,6 @@ module _ {X : Type 0} (same : X → X → Bool) (law : Sameness same) (brings : 
       let same_length : length (listed_if_any same xs (brings (f e))) ≡ max (length xs) (slot same xs some.0 + 1) = ap (λ o. length (listed_if_any same xs o)) some.1 ∙ length_listed same xs some.0 in
       more ∙ omega (arith, some.2))
       (each_head Needs e es h)
-
--- an element is at its place
-pub nth_within : {X : Type 0} (xs : List X) (i : ℕ) (x : X) → slice_get xs i ≡ Some x → (i < length xs) × (get_or xs i x ≡ x)
-nth_within [] i x e = let z : ◌≡◌ {A = ℕ} 0 1 = cc in absurd (omega arith)
-nth_within (y ∷ ys) zero x e = (omega arith, cc)
-nth_within (y ∷ ys) (suc i) x e = let h = nth_within ys i x e in (omega arith, h.1)
 
 -- what a look at a place lends is what stands there
 pub item_nth : {X : Type 0} (xs : List X) (i : ℕ) (o : Option (Bor X)) → IsGetResult xs i i o → option_map (λ x. x.now) o ≡ slice_get xs i

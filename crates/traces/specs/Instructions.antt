@@ -6,4 +6,4 @@ use Rattle.traces.specs.Stated.{stated}
 
 -- the instructions in the sequence in which they were added
 abbrev pub instructions : Contents → List Instruction
-instructions c = stated (vec_items c.threads) (vec_items c.addresses) (vec_items c.entries)
+instructions c = stated (vec_items c.threads.items) (vec_items c.addresses.items) (vec_items c.entries)

@@ -1,5 +1,5 @@
 -- What each kind of instruction has, and the numbers of kinds and refusals.
-use Rattle.std.specs.Prelude.{ℕ, Bool, true, false, cond, Some, None, Option, ◌==◌}
+use Rattle.std.specs.Prelude.{ℕ, Bool, true, false, cond, Some, None, Option, Result, ◌==◌, ok_or}
 use Rattle.traces.specs.declared.entry.Address.{Address}
 use Rattle.traces.specs.declared.entry.Instruction.{Instruction}
 use Rattle.traces.specs.declared.entry.Kind.{Kind}
@@ -17,6 +17,10 @@ kind_number Sync = 3
 -- the kind that a number stands for: none above 3
 abbrev pub kind_of : ℕ → Option Kind
 kind_of n = cond (n == 0) (Some Load) (cond (n == 1) (Some Store) (cond (n == 2) (Some Swap) (cond (n == 3) (Some Sync) None)))
+
+-- the same, with the refusal of a number that stands for none
+abbrev pub known_kind : ℕ → Result Kind Refusal
+known_kind n = ok_or (kind_of n) UnknownKind
 
 -- loads and swaps read
 abbrev pub reads : Kind → Bool
@@ -52,6 +56,10 @@ instruction t k a r w = record {
   read = cond (reads k) r 0;
   written = cond (writes k) w 0;
 }
+
+-- an instruction with 0 in the fields that its kind lacks
+abbrev pub normalized : Instruction → Instruction
+normalized i = instruction i.thread i.kind i.address i.read i.written
 
 -- the number of a refusal
 abbrev pub refusal_number : Refusal → ℕ

@@ -1,22 +1,14 @@
 // Instructions put at the end of what is held, and taken from there.
-ghost use Rattle.std.specs.Prelude.{◌≡◌, ◌<◌, max, true, [], length, take, slice_get, IfOk, vec_len, vec_capacity};
+ghost use Rattle.std.specs.Prelude.{◌≡◌, ◌<◌, true, [], length, take, slice_get, IfOk, vec_len};
 ghost use Rattle.traces.specs.Adding.{Leaves, admitted};
-ghost use Rattle.traces.specs.First.{SlotOf};
 ghost use Rattle.traces.specs.Instructions.{instructions};
-ghost use Rattle.traces.specs.Kinds.{addressed, instruction};
-ghost use Rattle.traces.specs.Slots.{grown};
+ghost use Rattle.traces.specs.Kinds.{addressed, normalized};
 ghost use Rattle.traces.specs.Stated.{AddressesNamed, ThreadsNamed, address_reach, reach, stated_by, thread_reach};
 
-use crate::contents::Contents;
-use crate::entry::{Address, Entry, Instruction, Kind, Refusal};
-use crate::lookup::first_equal;
+use crate::contents::{Contents, MAX_ENTRIES};
+use crate::entry::{Address, Entry, Instruction, Refusal};
+use crate::slots::Slots;
 use std::alloc::{AllocError, Global};
-
-const MAX_ENTRIES: usize = 64;
-
-const MAX_THREADS: usize = 8;
-
-const MAX_ADDRESSES: usize = 16;
 
 impl Contents {
     // Nothing, with all the room that will ever be needed.
@@ -24,8 +16,8 @@ impl Contents {
         ensures { IfOk result (λ c. instructions c ≡ []) }
     {
         let entries = Vec::with_capacity(heap, MAX_ENTRIES)?;
-        let threads = Vec::with_capacity(heap, MAX_THREADS)?;
-        let addresses = Vec::with_capacity(heap, MAX_ADDRESSES)?;
+        let threads = Slots::new(heap)?;
+        let addresses = Slots::new(heap)?;
         Ok(Contents {
             entries,
             threads,
@@ -34,34 +26,25 @@ impl Contents {
     }
 
     // Puts an instruction at the end, or refuses it and leaves all as it was.
-    pub(crate) fn add(
-        &mut self,
-        thread: u64,
-        kind: Kind,
-        address: Address,
-        read: u64,
-        written: u64,
-    ) -> Result<(), Refusal>
-        ensures { Leaves (admitted (instructions self.old) (instruction thread kind address read written)) (instructions self.old) result (instructions self.new) }
+    pub(crate) fn add(&mut self, instruction: Instruction) -> Result<(), Refusal>
+        ensures { Leaves (admitted (instructions self.old) (normalized instruction)) (instructions self.old) result (instructions self.new) }
     {
         if self.len() >= MAX_ENTRIES {
             return Err(Refusal::TooManyEntries);
         }
-        let added = Instruction::new(thread, kind, address, read, written);
-        let thread_slot = slot_of(self.threads.as_slice(), Some(thread));
-        if thread_slot >= MAX_THREADS {
-            return Err(Refusal::TooManyThreads);
-        }
+        let added = instruction.normalized();
+        let thread = Some(added.thread);
+        let thread_slot = self.threads.slot_of(thread).ok_or(Refusal::TooManyThreads)?;
         let location = added.location();
-        let address_slot = slot_of(self.addresses.as_slice(), location);
-        if address_slot >= MAX_ADDRESSES {
-            return Err(Refusal::TooManyAddresses);
-        }
-        enlist(&mut self.threads, Some(thread), thread_slot);
-        enlist(&mut self.addresses, location, address_slot);
+        let address_slot = self
+            .addresses
+            .slot_of(location)
+            .ok_or(Refusal::TooManyAddresses)?;
+        self.threads.enlist(thread, thread_slot);
+        self.addresses.enlist(location, address_slot);
         self.entries.push_reserved(Entry {
             thread: thread_slot,
-            kind,
+            kind: added.kind,
             address: address_slot,
             read: added.read,
             written: added.written,
@@ -92,53 +75,22 @@ impl Contents {
         self.entries.get(at).copied()
     }
 
-    // The address that an entry's slot names, or 0 where it has none.
-    fn address_of(&self, entry: Entry) -> Address
-        requires { addressed entry.kind ≡ true → entry.address < vec_len self.now.addresses }
-        ensures { result ≡ (stated_by self.now.threads.items self.now.addresses.items entry).address }
-    {
-        if entry.kind.has_address() {
-            self.addresses[entry.address]
-        } else {
-            Address { number: 0 }
-        }
-    }
-
     // The instruction that an entry stands for.
     pub(crate) fn instruction_of(&self, entry: Entry) -> Instruction
-        requires thread { entry.thread < vec_len self.now.threads }
-        requires address { addressed entry.kind ≡ true → entry.address < vec_len self.now.addresses }
-        ensures { result ≡ stated_by self.now.threads.items self.now.addresses.items entry }
+        requires thread { entry.thread < vec_len self.now.threads.items }
+        requires address { addressed entry.kind ≡ true → entry.address < vec_len self.now.addresses.items }
+        ensures { result ≡ stated_by self.now.threads.items.items self.now.addresses.items.items entry }
     {
         Instruction {
-            thread: self.threads[entry.thread],
+            thread: self.threads.items[entry.thread],
             kind: entry.kind,
-            address: self.address_of(entry),
+            address: if entry.kind.has_address() {
+                self.addresses.items[entry.address]
+            } else {
+                Address { number: 0 }
+            },
             read: entry.read,
             written: entry.written,
-        }
-    }
-}
-
-// The slot of what is brought: the place of the first equal item, or the next free one. 0 where nothing is brought.
-fn slot_of<T: PartialEq + Copy>(items: &[T], brought: Option<T>) -> usize
-    ensures { SlotOf (λ y x r. r ≡ T.eq y x) items.now brought result }
-{
-    let Some(x) = brought else {
-        return 0;
-    };
-    first_equal(items, &x).unwrap_or(items.len())
-}
-
-// Puts what is brought, whose slot is given, at the end of `items`, unless it is there.
-fn enlist<T: Copy>(items: &mut Vec<T>, brought: Option<T>, slot: usize)
-    requires { slot < vec_capacity items.old }
-    ensures items { items.new.items ≡ grown items.old.items brought slot }
-    ensures capacity { vec_capacity items.new ≡ vec_capacity items.old }
-{
-    if let Some(x) = brought {
-        if slot >= items.len() {
-            items.push_reserved(x);
         }
     }
 }
@@ -155,12 +107,6 @@ fn address_reach(entry: &Entry) -> usize
     }
 }
 
-fn larger(a: usize, b: usize) -> usize
-    ensures { result ≡ max a b }
-{
-    if a < b { b } else { a }
-}
-
 // How many threads and how many addresses the slots of entries name.
 fn named(entries: &[Entry]) -> (usize, usize)
     requires threads { ThreadsNamed 8 entries.now }
@@ -168,11 +114,7 @@ fn named(entries: &[Entry]) -> (usize, usize)
     ensures threads { result.0 ≡ reach thread_reach entries.now }
     ensures addresses { result.1 ≡ reach address_reach entries.now }
 {
-    let mut threads = 0;
-    let mut addresses = 0;
-    for entry in entries {
-        threads = larger(threads, entry.thread + 1);
-        addresses = larger(addresses, address_reach(entry));
-    }
-    (threads, addresses)
+    let threads = entries.iter().map(|entry| entry.thread + 1).max();
+    let addresses = entries.iter().map(address_reach).max();
+    (threads.unwrap_or(0), addresses.unwrap_or(0))
 }

@@ -1,6 +1,7 @@
 // Drafts, which grow, and traces, which are sealed drafts. Neither can be copied.
 ghost use Rattle.std.specs.Prelude.{◌≡◌, [], length, take, slice_get, IfOk};
-ghost use Rattle.traces.specs.Adding.{Leaves, added, addresses_of, threads_of};
+ghost use Rattle.traces.specs.Adding.{Leaves, added, addresses_of, admitted, threads_of};
+ghost use Rattle.traces.specs.Kinds.{normalized};
 ghost use Rattle.traces.specs.Instructions.{instructions};
 ghost use Rattle.traces.specs.Stated.{entries_of};
 
@@ -8,6 +9,7 @@ use crate::contents::Contents;
 use crate::entry::{Address, Entry, Instruction, Kind, Refusal};
 use std::alloc::{AllocError, Global};
 
+// Clauses name what is held, and no view of it: crates above rest on the bounds of `Contents`, which a view would hide.
 #[derive(Drop)]
 pub struct Draft {
     contents: Contents,
@@ -22,7 +24,7 @@ impl Draft {
         Ok(Draft { contents })
     }
 
-    // Adds an instruction at the end, its kind given by its number, or refuses it and leaves the draft as it was.
+    // Adds an instruction at the end, or refuses it and leaves the draft as it was. Its kind is a number, of which any may come.
     pub fn add(
         &mut self,
         thread: u64,
@@ -33,10 +35,15 @@ impl Draft {
     ) -> Result<(), Refusal>
         ensures { Leaves (added (instructions self.old.contents) thread kind address read written) (instructions self.old.contents) result (instructions self.new.contents) }
     {
-        let Some(known) = Kind::from_number(kind) else {
-            return Err(Refusal::UnknownKind);
-        };
-        self.contents.add(thread, known, address, read, written)
+        let kind = Kind::try_from(kind)?;
+        self.push(Instruction::new(thread, kind, address, read, written))
+    }
+
+    // Adds an instruction at the end, without what its kind lacks, or refuses it and leaves the draft as it was.
+    pub fn push(&mut self, instruction: Instruction) -> Result<(), Refusal>
+        ensures { Leaves (admitted (instructions self.old.contents) (normalized instruction)) (instructions self.old.contents) result (instructions self.new.contents) }
+    {
+        self.contents.add(instruction)
     }
 
     pub fn len(&self) -> usize
@@ -61,6 +68,7 @@ impl Draft {
     }
 }
 
+// A sealed draft. As there, clauses name what is held.
 #[derive(Drop)]
 pub struct Trace {
     contents: Contents,

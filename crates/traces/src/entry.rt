@@ -1,6 +1,6 @@
 // What an instruction is, as it is stated and as a trace holds it, and why one is refused.
 
-#[derive(Clone, Copy, PartialEq)]
+#[derive(Clone, Copy, PartialEq, Eq)]
 pub enum Kind {
     Load,
     Store,
@@ -9,12 +9,12 @@ pub enum Kind {
 }
 
 // Where an instruction reads or writes. Drafts and traces do nothing with addresses but compare them.
-#[derive(Clone, Copy, PartialEq)]
+#[derive(Clone, Copy, PartialEq, Eq)]
 pub struct Address {
     pub number: u64,
 }
 
-// An instruction as it is stated. A field that its kind lacks is 0.
+// An instruction as it is stated. Each kind has the five fields of the format, and a field that its kind lacks is 0.
 #[derive(Clone, Copy)]
 pub struct Instruction {
     pub thread: u64,
@@ -24,7 +24,7 @@ pub struct Instruction {
     pub written: u64,
 }
 
-// An instruction as a trace holds it, with the slots of its thread and of its address.
+// An instruction as a trace holds it, with the slots of its thread and of its address. 0 is in a field that its kind lacks, as above.
 #[derive(Clone, Copy)]
 pub struct Entry {
     pub thread: usize,
@@ -35,7 +35,7 @@ pub struct Entry {
 }
 
 // Why an instruction is not added.
-#[derive(Clone, Copy, PartialEq)]
+#[derive(Clone, Copy, PartialEq, Eq)]
 pub enum Refusal {
     UnknownKind,
     TooManyEntries,

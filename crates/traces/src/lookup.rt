@@ -6,10 +6,5 @@ ghost use Rattle.traces.specs.First.{First};
 pub fn first_equal<T: PartialEq>(items: &[T], x: &T) -> Option<usize>
     ensures { First (λ y r. r ≡ T.eq y x.now) items.now result }
 {
-    for (i, item) in items.iter().enumerate() {
-        if item == x {
-            return Some(i);
-        }
-    }
-    None
+    items.iter().position(|item| item == x)
 }

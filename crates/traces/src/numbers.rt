@@ -1,38 +1,46 @@
 // Kinds and refusals by their numbers, and what each kind has.
 ghost use Rattle.std.specs.Prelude.{◌≡◌};
 ghost use Rattle.traces.specs.Adding.{address_in};
-ghost use Rattle.traces.specs.Kinds.{addressed, instruction, kind_number, kind_of, reads, refusal_number, trace_layer, writes};
+ghost use Rattle.traces.specs.Kinds.{addressed, instruction, kind_number, known_kind, normalized, reads, refusal_number, trace_layer, writes};
 
 use crate::entry::{Address, Instruction, Kind, Refusal};
 
 // Drafts and traces are layer 1.
 const LAYER: u8 = 1;
 
-impl Kind {
-    // The kind that a number stands for, if there is one.
-    pub fn from_number(number: u64) -> Option<Kind>
-        ensures { result ≡ kind_of number }
-    {
+// The kind that a number stands for, if there is one.
+impl TryFrom<u64> for Kind {
+    type Error = Refusal;
+
+    ghost try_from_gives = { λ number kind. kind ≡ known_kind number };
+
+    fn try_from(number: u64) -> Result<Kind, Refusal> {
         match number {
-            0 => Some(Kind::Load),
-            1 => Some(Kind::Store),
-            2 => Some(Kind::Swap),
-            3 => Some(Kind::Sync),
-            _ => None,
+            0 => Ok(Kind::Load),
+            1 => Ok(Kind::Store),
+            2 => Ok(Kind::Swap),
+            3 => Ok(Kind::Sync),
+            _ => Err(Refusal::UnknownKind),
         }
     }
+}
 
-    pub fn number(self) -> u64
-        ensures { result ≡ kind_number self }
-    {
-        match self {
+// The number of a kind.
+impl From<Kind> for u64 {
+    ghost from_gives = { λ kind number. number ≡ kind_number kind };
+
+    fn from(kind: Kind) -> u64 {
+        match kind {
             Kind::Load => 0,
             Kind::Store => 1,
             Kind::Swap => 2,
             Kind::Sync => 3,
         }
     }
+}
 
+// Tables by `match` and not by `matches!`, so that each kind has its answer and a new one needs one.
+impl Kind {
     pub fn reads(self) -> bool
         ensures { result ≡ reads self }
     {
@@ -94,18 +102,28 @@ impl Instruction {
         }
     }
 
+    // The same with 0 in the fields that its kind lacks.
+    pub(crate) fn normalized(self) -> Instruction
+        ensures { result ≡ normalized self }
+    {
+        Instruction::new(
+            self.thread,
+            self.kind,
+            self.address,
+            self.read,
+            self.written,
+        )
+    }
+
     // Its address, unless its kind has none.
     pub fn location(self) -> Option<Address>
         ensures { result ≡ address_in self }
     {
-        if self.kind.has_address() {
-            Some(self.address)
-        } else {
-            None
-        }
+        self.kind.has_address().then_some(self.address)
     }
 }
 
+// Methods and not `From`, which could not tell the number and the layer apart: both are `u8`.
 impl Refusal {
     pub fn number(self) -> u8
         ensures { result ≡ refusal_number self }
