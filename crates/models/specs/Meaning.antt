@@ -1,5 +1,5 @@
 -- What a model of any type means.
-use Rattle.models.specs.declared.model.Model.{Ghosts}
+use Rattle.models.specs.declared.model.MemoryModel.{Ghosts}
 use Rattle.models.specs.Tables.{Tables}
 
 -- the tables of a model m of the type X

@@ -12,8 +12,8 @@ mod strictness;
 mod total_store;
 
 pub use access::Access;
-pub use model::Model;
-pub use name::ModelName;
+pub use model::MemoryModel;
+pub use name::{ModelName, UnknownModel};
 pub use partial_store::Pso;
 pub use relaxed::Rmo;
 pub use sequential::Sc;

@@ -9,7 +9,7 @@ use traces::Kind;
 
 // A model answers two questions, and its meaning is the two tables of answers.
 // It answers from kinds and addresses alone, and always the same, and it shows two laws.
-pub trait Model {
+pub trait MemoryModel {
     // whether an instruction of a kind waits
     ghost waiting: { Self → Kind → Bool };
 
@@ -19,6 +19,7 @@ pub trait Model {
     fn waits(&self, kind: Kind) -> bool
         ensures { result ≡ waiting self.now kind };
 
+    // Two arguments, as the tables have them: a pair of accesses would only be taken apart again.
     fn keeps_ahead(&self, i: Access, j: Access) -> bool
         ensures { result ≡ ahead self.now i j };
 

@@ -3,13 +3,12 @@ ghost use Rattle.models.specs.Tables.{rmo};
 ghost use Rattle.std.proofs.Common.{rules};
 
 use crate::access::Access;
-use crate::accesses::{either_syncs, is_sync, on_same_address};
-use crate::model::Model as MemoryModel;
+use crate::model::MemoryModel;
 use traces::Kind;
 
 // All but syncs wait. Only a later write of the same address, and syncs, keep a sequence.
 #[derive(Clone, Copy)]
-pub struct Rmo {}
+pub struct Rmo;
 
 impl MemoryModel for Rmo {
     ghost waiting = { λ _. rmo.waiting };
@@ -21,10 +20,10 @@ impl MemoryModel for Rmo {
     ghost coherent = { Prim.search rules };
 
     fn waits(&self, kind: Kind) -> bool {
-        !is_sync(kind)
+        kind != Kind::Sync
     }
 
     fn keeps_ahead(&self, i: Access, j: Access) -> bool {
-        j.kind.writes() && on_same_address(i, j) || either_syncs(i, j)
+        j.kind.writes() && i.is_on_same_address(j) || i.either_syncs(j)
     }
 }

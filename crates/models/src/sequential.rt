@@ -3,12 +3,12 @@ ghost use Rattle.models.specs.Tables.{sc};
 ghost use Rattle.std.proofs.Common.{rules};
 
 use crate::access::Access;
-use crate::model::Model as MemoryModel;
+use crate::model::MemoryModel;
 use traces::Kind;
 
 // Every instruction takes effect in the sequence of its thread.
 #[derive(Clone, Copy)]
-pub struct Sc {}
+pub struct Sc;
 
 impl MemoryModel for Sc {
     ghost waiting = { λ _. sc.waiting };

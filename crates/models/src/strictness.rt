@@ -6,23 +6,21 @@ ghost use Rattle.models.specs.Tables.{AtLeastAsStrict};
 ghost use Rattle.models.specs.declared.name.ModelName.TheVariants.{Pso as PsoName, Rmo as RmoName, Sc as ScName, Tso as TsoName};
 
 use crate::access::Access;
-use crate::model::Model;
-// the trait under a name that clauses tell from the trait Model of the language
-use crate::model::Model as MemoryModel;
+use crate::model::MemoryModel;
 use crate::partial_store::Pso;
 use crate::relaxed::Rmo;
 use crate::sequential::Sc;
 use crate::total_store::Tso;
 
 // Whether the first model keeps i ahead of j if the second does: so it is wherever the first is at least as strict.
-pub fn at_least_as_strict_at<M: Model, N: Model>(
+pub fn at_least_as_strict_at<M: MemoryModel, N: MemoryModel>(
     first: &M,
     second: &N,
     i: Access,
     j: Access,
 ) -> bool
     ensures pair { result ≡ (not (N.ahead second.now i j) || M.ahead first.now i j) }
-    ensures strict { AtLeastAsStrict (tables_of M.Model first.now) (tables_of N.Model second.now) → result ≡ true }
+    ensures strict { AtLeastAsStrict (tables_of M.MemoryModel first.now) (tables_of N.MemoryModel second.now) → result ≡ true }
 {
     !second.keeps_ahead(i, j) || first.keeps_ahead(i, j)
 }
@@ -34,5 +32,5 @@ pub fn standard_models() -> (Sc, Tso, Pso, Rmo)
     ensures second { AtLeastAsStrict (tables_of ⟦<Tso as MemoryModel>⟧ result.1) (tables_of ⟦<Pso as MemoryModel>⟧ result.2) }
     ensures third { AtLeastAsStrict (tables_of ⟦<Pso as MemoryModel>⟧ result.2) (tables_of ⟦<Rmo as MemoryModel>⟧ result.3) }
 {
-    (Sc {}, Tso {}, Pso {}, Rmo {})
+    (Sc, Tso, Pso, Rmo)
 }

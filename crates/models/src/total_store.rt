@@ -3,13 +3,12 @@ ghost use Rattle.models.specs.Tables.{tso};
 ghost use Rattle.std.proofs.Common.{rules};
 
 use crate::access::Access;
-use crate::accesses::{both_write, either_syncs, is_store};
-use crate::model::Model as MemoryModel;
+use crate::model::MemoryModel;
 use traces::Kind;
 
 // Stores wait in one store buffer for each thread.
 #[derive(Clone, Copy)]
-pub struct Tso {}
+pub struct Tso;
 
 impl MemoryModel for Tso {
     ghost waiting = { λ _. tso.waiting };
@@ -21,10 +20,10 @@ impl MemoryModel for Tso {
     ghost coherent = { Prim.search rules };
 
     fn waits(&self, kind: Kind) -> bool {
-        is_store(kind)
+        kind == Kind::Store
     }
 
     fn keeps_ahead(&self, i: Access, j: Access) -> bool {
-        i.kind.reads() || both_write(i, j) || either_syncs(i, j)
+        i.kind.reads() || i.both_write(j) || i.either_syncs(j)
     }
 }
