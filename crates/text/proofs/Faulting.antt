@@ -19,20 +19,20 @@ use Rattle.text.specs.Lines.{accepted, accessed, body, cell_parts, fault_at, is_
 use Rattle.traces.specs.Adding.{and_then}
 use Rattle.text.specs.Faults.{NumberFits, LineFault, too_large, other_address}
 use Rattle.text.proofs.Longest.{token_digits, token_number, token_fixed}
-use Rattle.text.proofs.Fits.{no_ok, then_then, symbol_is}
+use Rattle.text.proofs.Fits.{then_then, symbol_is}
 use Rattle.text.proofs.Wants.{Want, finish, any, new, same, symbol, either, Small, Follows, at_end, any_number, new_number, same_number, the_symbol, first, second, completed, naught, naught_small, wanting, plan, access, bodies, whole, states_follow, follow_states, behind_symbol, follows_behind_first, behind_any, behind_new, behind_same, no_equals, no_memory, no_less, NumberFirst, Numeric, any_numeric, new_numeric, same_numeric}
 use Rattle.text.proofs.Likes.{Like, numbers, like_number, not_end, not_symbol}
 use Rattle.text.proofs.Reaching.{Reached, leads_here, column_here, one_more, one_wanted, misfits, passed}
 
 -- the fault of a statement is the fault of its parts
 of_statement : (d : Kind) (r : Result (Fields × At) Fault) (e : Fault) → statement d r ≡ Err e → r ≡ Err e
-of_statement d (Ok x) e h = absurd (no_ok e _ (sym h))
+of_statement d (Ok x) e h = cc
 of_statement d (Err x) e h = let same : x ≡ e = cc in ap Err same
 
 -- the fault of a line is the fault of its statement
 of_line : (b : Bool) (r : Result Statement Fault) (e : Fault) → cond b (Ok None) (some_statement r) ≡ Err e → r ≡ Err e
-of_line true r e h = absurd (no_ok e _ (sym h))
-of_line false (Ok x) e h = absurd (no_ok e _ (sym h))
+of_line true r e h = cc
+of_line false (Ok x) e h = cc
 of_line false (Err x) e h = let same : x ≡ e = cc in ap Err same
 
 -- a part that is not the line's end
@@ -72,7 +72,7 @@ module _ (bs : List ℕ) (n : ℕ) where
       none q ts l at_end = not_end (next_token a) q l
 
       go : (b : Bool) → is_end (next_token a) ≡ b → and_then (placed (skipped a) (cond b (Ok f) (Err Misfit))) (λ g. parts [] g (past a)) ≡ Err e → Refused e
-      go true q h = absurd (no_ok e (f, past a) (sym h))
+      go true q h = cc
       go false q h = refused_at a Misfit r.line_is (misfits r (none q)) e h
 
   module _ {X : Type 0} (s : Symbol) (w : Want) (k : Fields → At → Result X Fault) (behind : Faults w k) where

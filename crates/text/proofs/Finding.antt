@@ -1,5 +1,5 @@
 -- The first fault of a text is the one that reading answers.
-use Rattle.std.proofs.Common.{◌≡◌, ℕ, ◌+◌, List, [], ◌∷◌, ◌++◌, length, Some, None, Ok, Err, Option, Result, sym, refl, ap, ◌∙◌, subst, inl, inr, arith}
+use Rattle.std.proofs.Common.{◌≡◌, ℕ, ◌+◌, List, [], ◌∷◌, ◌++◌, length, Some, None, Ok, Err, Option, Result, sym, refl, ap, ◌∙◌, subst, inl, inr}
 use Rattle.std.proofs.lemmas.List.{append-nil}
 use Rattle.std.proofs.lemmas.List.Elements.{All-nil}
 use Rattle.std.proofs.lemmas.Bool.{cond-true, cond-false, lt-ltb, le-ltb}
@@ -67,7 +67,7 @@ module _ (n : ℕ) (bs : List ℕ) where
       line_read n before bs ≡ Err (record { cause = Trace e; line = n; column = column })
   refusal_found before i e column l h p =
       elim (line_complete n bs (i ∷ []) l) [
-        | inl k ↦ absurd (let z : ◌≡◌ {A = ℕ} 0 1 = cc in omega arith)
+        | inl k ↦ cc
         | inr k ↦
             let s : Statement = k.0 in
             let same : i ≡ instruction_of s = cc in

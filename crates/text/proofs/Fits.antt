@@ -36,10 +36,6 @@ pub data Fit : List Part → Values → List Tok → Values → Type 0 where
   fit_read : {ds : List ℕ} {n : ℕ} {ps : List Part} {v w : Values} {ts : List Tok} → Writes ds n → Fit ps (v.0, v.1, n, v.3) ts w → Fit (Read ∷ ps) v (number ds ∷ ts) w
   fit_written : {ds : List ℕ} {n : ℕ} {ps : List Part} {v w : Values} {ts : List Tok} → Writes ds n → Fit ps (v.0, v.1, v.2, n) ts w → Fit (Written ∷ ps) v (number ds ∷ ts) w
 
--- a fault is no success
-pub no_ok : {A E : Type 0} (e : E) (x : A) → Err e ≡ Ok x → ⊥
-no_ok e x h = let z : ◌≡◌ {A = ℕ} 0 1 = cc in omega arith
-
 -- what has succeeded in two ways is the same
 pub ok_same : {A E : Type 0} (x y : A) → ◌≡◌ {A = Result A E} (Ok x) (Ok y) → x ≡ y
 ok_same x y h = cc
@@ -47,7 +43,7 @@ ok_same x y h = cc
 -- two steps succeed only if the first does, and then the second
 pub then_ok : {A B E : Type 0} (r : Result A E) (k : A → Result B E) (y : B) → and_then r k ≡ Ok y → (x : A) × (r ≡ Ok x) × (k x ≡ Ok y)
 then_ok (Ok x) k y h = (x, refl, h)
-then_ok (Err e) k y h = absurd (no_ok e y h)
+then_ok (Err e) k y h = cc
 
 -- three steps are taken in either grouping
 pub then_then : {A B C E : Type 0} (r : Result A E) (f : A → Result B E) (g : B → Result C E) → and_then (and_then r f) g ≡ and_then r (λ x. and_then (f x) g)
@@ -62,12 +58,12 @@ then_same (Err e) f g h = refl
 -- a test that is to pass has passed
 pub test_ok : {A E : Type 0} (b : Bool) (r : Result A E) (e : E) (x : A) → cond b r (Err e) ≡ Ok x → (b ≡ true) × (r ≡ Ok x)
 test_ok true r e x h = (refl, h)
-test_ok false r e x h = absurd (no_ok e x h)
+test_ok false r e x h = cc
 
 -- what succeeds at a place succeeds anyway
 placed_ok : {A : Type 0} (a : At) (r : Result A Cause) (x : A) → placed a r ≡ Ok x → r ≡ Ok x
-placed_ok a (Ok y) x h = ap Ok (ok_same y x h)
-placed_ok a (Err e) x h = absurd (no_ok _ x h)
+placed_ok a (Ok y) x h = cc
+placed_ok a (Err e) x h = cc
 
 -- the first part is accepted, and the others are read past its token
 pub parts_first : (p : Part) (ps : List Part) (f : Fields) (a : At) (x : Fields × At) → parts (p ∷ ps) f a ≡ Ok x → (g : Fields) × (accepted p f (skipped a).column (next_token a) ≡ Ok g) × (parts ps g (past a) ≡ Ok x)
@@ -88,7 +84,7 @@ writes_in ds n w = ap or_too_large (cond-true _ _ _ (lt-ltb (denoted 0 ds) (2 ^ 
 -- a number that is given is written by its digits, by whether it has 64 bits
 value_writes : (ds : List ℕ) (b : Bool) (n : ℕ) → Spells ds (number ds) → ltb (denoted 0 ds) (2 ^ 64) ≡ b → or_too_large (cond b (Some (denoted 0 ds)) None) ≡ Ok n → Writes ds n
 value_writes ds true n s e h = let k : denoted 0 ds ≡ n = cc in (s, k, subst (λ m. m < 2 ^ 64) k (ltb-true (denoted 0 ds) (2 ^ 64) e))
-value_writes ds false n s e h = absurd (no_ok _ n h)
+value_writes ds false n s e h = cc
 
 -- a number that is given is written by the digits of the token that is read
 pub in_writes : (bs : List ℕ) (n : ℕ) → number_in (token bs) ≡ Ok n → (ds : List ℕ) × (token bs ≡ number ds) × Writes ds n
@@ -96,9 +92,9 @@ in_writes bs n = go (token bs) refl
   where
     go : (t : Tok) → token bs ≡ t → number_in t ≡ Ok n → (ds : List ℕ) × (token bs ≡ number ds) × Writes ds n
     go (number ds) e h = (ds, e, value_writes ds (ltb (denoted 0 ds) (2 ^ 64)) n (token_digits bs ds e) refl h)
-    go (fixed s) e h = absurd (no_ok _ n h)
-    go ends e h = absurd (no_ok _ n h)
-    go unknown e h = absurd (no_ok _ n h)
+    go (fixed s) e h = cc
+    go ends e h = cc
+    go unknown e h = cc
 
 -- the symbol with a number
 symbol_of : ℕ → Symbol

@@ -1,5 +1,5 @@
 -- The four forms of a line: as parts, as tokens, and as a line is read.
-use Rattle.std.proofs.Common.{◌≡◌, ℕ, Bool, true, false, cond, List, [], ◌∷◌, ◌++◌, Some, None, Ok, Err, Option, Result, sym, refl, ap, ◌∙◌, subst, arith}
+use Rattle.std.proofs.Common.{◌≡◌, Bool, true, false, cond, List, [], ◌∷◌, ◌++◌, Some, None, Ok, Err, Option, Result, sym, refl, ap, ◌∙◌, subst}
 use Rattle.std.proofs.lemmas.Bool.{cond-false}
 use Rattle.traces.specs.declared.entry.Instruction.{Instruction}
 use Rattle.traces.specs.declared.entry.Kind.{Kind}
@@ -16,7 +16,7 @@ use Rattle.text.specs.Tokens.{At, skipped, next_token, past}
 use Rattle.text.specs.Grammar.{States, a_load, a_store, a_swap, a_sync, Tok, fixed, ends}
 use Rattle.text.specs.Lines.{number_in, is_symbol, is_end, put, accepted, placed, parts, thread_parts, cell_parts, load_parts, store_parts, swap_parts, sync_parts, no_fields, statement, accessed, body, some_statement, line_from}
 use Rattle.traces.specs.Adding.{and_then}
-use Rattle.text.proofs.Fits.{Values, values, Fit, fit_all, fit_end, fit_symbol, fit_thread, fit_address, fit_same, fit_read, fit_written, no_ok, ok_same, then_ok, then_then, then_same, in_writes, parts_first, end_is, symbol_is, symbol_first, symbol_next}
+use Rattle.text.proofs.Fits.{Values, values, Fit, fit_all, fit_end, fit_symbol, fit_thread, fit_address, fit_same, fit_read, fit_written, ok_same, then_ok, then_then, then_same, in_writes, parts_first, end_is, symbol_is, symbol_first, symbol_next}
 
 -- the parts of a body of each kind
 abbrev pub body_parts : Kind → List Part
@@ -79,7 +79,7 @@ Formed f a s = (b : At) × (parts (body_parts s.kind) f a ≡ Ok (s.fields, b))
 -- what is read as a statement of the kind k, where the parts of that kind are read as well
 formed_by : (k : Kind) (f : Fields) (a : At) (r : Result (Fields × At) Fault) (s : Statement) → ((x : Fields × At) → r ≡ Ok x → parts (body_parts k) f a ≡ Ok x) → statement k r ≡ Ok s → Formed f a s
 formed_by k f a (Ok x) s h e = subst (Formed f a) (ok_same _ s e) (x.1, h x refl)
-formed_by k f a (Err q) s h e = absurd (no_ok q s e)
+formed_by k f a (Err q) s h e = cc
 
 -- a symbol that passes is read
 symbol_read : (s : Symbol) (ps : List Part) (f : Fields) (a : At) (x : Fields × At) → is_symbol s (next_token a) ≡ true → parts ps f (past a) ≡ Ok x → parts (Fixed s ∷ ps) f a ≡ Ok x
@@ -92,7 +92,7 @@ accessed_form f a y s m c h =
     (λ t e. formed_by Load f a _ s (λ x r. symbol_read Memory _ f a x m (parts_join cell_parts _ f (past a) y x c (symbol_read Equals load_parts y.0 y.1 x t r))) e)
     (λ h. either_ok (is_symbol Assign (next_token y.1)) _ _ s h
     (λ t e. formed_by Store f a _ s (λ x r. symbol_read Memory _ f a x m (parts_join cell_parts _ f (past a) y x c (symbol_read Assign store_parts y.0 y.1 x t r))) e)
-    (λ h. absurd (no_ok _ s h)))
+    (λ h. cc))
 
 -- a body that is read has the parts of its kind
 body_form : (f : Fields) (a : At) (s : Statement) → body f a ≡ Ok s → Formed f a s
@@ -103,7 +103,7 @@ body_form f a s h =
     (λ t e. formed_by Swap f a _ s (λ x r. symbol_read Less swap_parts f a x t r) e)
     (λ h. either_ok (is_symbol Sync (next_token a)) _ _ s h
     (λ t e. formed_by SyncKind f a _ s (λ x r. symbol_read Sync sync_parts f a x t r) e)
-    (λ h. absurd (no_ok _ s h))))
+    (λ h. cc)))
 
 -- the body by its first token
 abbrev body_by : {R : Type 0} → R → R → R → R → Tok → R
@@ -133,7 +133,7 @@ module _ (f g : Fields) (a b : At) where
 -- what a line states is a statement that was read
 some_ok : (r : Result Statement Fault) (s : Statement) → some_statement r ≡ Ok (Some s) → r ≡ Ok s
 some_ok (Ok x) s h = ap Ok (cc)
-some_ok (Err e) s h = absurd (no_ok _ _ h)
+some_ok (Err e) s h = cc
 
 -- what is read of a line: nothing at its end, else a statement
 abbrev line_by : Bool → Result Statement Fault → Result (Option Statement) Fault
@@ -141,14 +141,14 @@ line_by t r = cond t (Ok None) (some_statement r)
 
 -- a line that states something was read as that statement
 line_some : (t : Bool) (r : Result Statement Fault) (s : Statement) → line_by t r ≡ Ok (Some s) → r ≡ Ok s
-line_some true r s h = absurd (let z : ◌≡◌ {A = ℕ} 0 1 = cc in omega arith)
+line_some true r s h = cc
 line_some false r s h = some_ok r s h
 
 -- a line that states nothing was at its end
 line_none : (t : Bool) (r : Result Statement Fault) → line_by t r ≡ Ok None → t ≡ true
 line_none true r h = refl
-line_none false (Ok x) h = absurd (let z : ◌≡◌ {A = ℕ} 0 1 = cc in omega arith)
-line_none false (Err e) h = absurd (no_ok _ _ h)
+line_none false (Ok x) h = cc
+line_none false (Err e) h = cc
 
 -- a line that states something has the parts of a form
 pub line_form : (a : At) (s : Statement) → line_from a ≡ Ok (Some s) → (b : At) × (parts (form_parts s.kind) no_fields a ≡ Ok (s.fields, b))

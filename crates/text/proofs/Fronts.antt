@@ -1,8 +1,10 @@
 -- The bytes at the front of a list that pass a test.
-use Rattle.std.proofs.Common.{◌≡◌, ℕ, ◌+◌, Bool, true, false, cond, List, [], ◌∷◌, ◌++◌, length, get_or, take, drop, All, refl, ◌∙◌, one-add, arith}
+use Rattle.std.proofs.Common.{◌≡◌, ℕ, ◌+◌, ◌<◌, Bool, true, false, List, [], ◌∷◌, ◌++◌, length, get_or, take, drop, All, refl, ◌∙◌, ⊎_elim, add-zero, length-take, get_or-drop, get_or-take, arith}
 use Rattle.std.specs.List.{prefix_len}
-use Rattle.std.proofs.lemmas.List.Elements.{All-nil, All-cons, All-head, All-tail}
-use Rattle.std.proofs.lemmas.Bool.{cond-true, cond-false}
+use Rattle.std.proofs.lemmas.List.{drop_all}
+use Rattle.std.proofs.lemmas.List.Elements.{All-from_get_or, All-head, All-tail}
+use Rattle.std.proofs.lemmas.List.Sums.{prefix_len_passes, prefix_len_stops}
+use Rattle.std.proofs.lemmas.Bool.{cond-true, cond-false, cases_lt}
 
 module _ (test : ℕ → Bool) where
   -- none pass where the first does not
@@ -15,22 +17,17 @@ module _ (test : ℕ → Bool) where
   front_behind [] ys a = omega arith
   front_behind (x ∷ xs) ys a = let h = front_behind xs ys (All-tail (λ b. test b ≡ true) x xs a) in cond-true _ _ _ (All-head (λ b. test b ≡ true) x xs a) ∙ omega arith
 
-  -- one more byte in front, by whether it passes: each byte of the front passes
-  passes_step : (x : ℕ) (xs : List ℕ) (t : Bool) → test x ≡ t → All (λ b. test b ≡ true) (take (prefix_len test xs) xs) → All (λ b. test b ≡ true) (take (cond t (1 + prefix_len test xs) 0) (x ∷ xs))
-  passes_step x xs true e h = rw one-add (All-cons (λ b. test b ≡ true) x _ e h)
-  passes_step x xs false e h = All-nil (λ b. test b ≡ true)
-
   -- each byte of the front passes
   pub front_passes : (xs : List ℕ) → All (λ b. test b ≡ true) (take (prefix_len test xs) xs)
-  front_passes [] = All-nil (λ b. test b ≡ true)
-  front_passes (x ∷ xs) = passes_step x xs (test x) refl (front_passes xs)
-
-  -- one more byte in front, by whether it passes: the byte behind the front does not pass
-  stops_step : (x : ℕ) (xs : List ℕ) (t : Bool) → test x ≡ t → test (get_or (drop (prefix_len test xs) xs) 0 0) ≡ false → test (get_or (drop (cond t (1 + prefix_len test xs) 0) (x ∷ xs)) 0 0) ≡ false
-  stops_step x xs true e h = rw one-add h
-  stops_step x xs false e h = e
+  front_passes xs =
+      All-from_get_or (λ b. test b ≡ true) (take (prefix_len test xs) xs) 0 (λ i l.
+      let h : i < prefix_len test xs = omega (arith, length-take (prefix_len test xs) xs) in
+      rw get_or-take (prefix_len_passes test xs i 0 h))
 
   -- the byte behind the front does not pass
   pub front_stops : (xs : List ℕ) → test 0 ≡ false → test (get_or (drop (prefix_len test xs) xs) 0 0) ≡ false
-  front_stops [] z = z
-  front_stops (x ∷ xs) z = stops_step x xs (test x) refl (front_stops xs z)
+  front_stops xs z =
+      ⊎_elim
+      (λ l. rw (get_or-drop, add-zero) (prefix_len_stops test xs 0 l))
+      (λ g. rw (drop_all (prefix_len test xs) xs g) z)
+      (cases_lt (prefix_len test xs) (length xs))

@@ -10,7 +10,6 @@ pub mod Leading
 pub mod Likes
 pub mod Lining
 pub mod Longest
-pub mod Moving
 pub mod Parting
 pub mod Placing
 pub mod Reaching

@@ -3,7 +3,6 @@ use Rattle.std.proofs.Common.{◌≡◌, ℕ, ◌+◌, ◌<◌, ◌≤◌, List,
 use Rattle.std.proofs.lemmas.List.{at_drop_more, at_drop_all}
 use Rattle.text.specs.declared.statement.Part.{Part}
 use Rattle.text.specs.declared.statement.Fields.{Fields}
-use Rattle.text.specs.declared.fault.Cause.{Cause}
 use Rattle.text.specs.declared.fault.Fault.{Fault}
 use Rattle.text.specs.Tokens.{At, skipped, next_token, past}
 use Rattle.text.specs.Grammar.{Tok}
@@ -27,8 +26,10 @@ module _ (form : List Part) (i : ℕ) (f : Fields) (a : At) (whole : Result (Fie
     parts_more g b e h = ap (parts (drop (i + 1) form) g) e ∙ ap (λ r. and_then (placed (skipped a) r) (λ x. parts (drop (i + 1) form) x (past a))) h ∙ next_part
 
     -- the token does not fit, and the whole is that fault
-    pub parts_stop : (e : Cause) → Err e ≡ accepted (get_or form i p) f c t → whole ≡ Err (fault_at (skipped a) e)
-    parts_stop e h = sym next_part ∙ ap (λ r. and_then (placed (skipped a) r) (λ x. parts (drop (i + 1) form) x (past a))) (sym h)
+    pub parts_stop : (e : Fault) → accepted (get_or form i p) f c t ≡ Err e.cause → e.line ≡ a.line → e.column ≡ c → whole ≡ Err e
+    parts_stop e h l k =
+        let same : fault_at (skipped a) e.cause ≡ e = λ j. record { cause = e.cause; line = sym l j; column = sym (k ∙ same-c) j } in
+        sym next_part ∙ ap (λ r. and_then (placed (skipped a) r) (λ x. parts (drop (i + 1) form) x (past a))) h ∙ ap Err same
 
   -- no part is left
   pub parts_all : length form ≤ i → whole ≡ Ok (f, a)

@@ -59,12 +59,12 @@ leaves_thread LineEnd = true
 
 thread_left : (p : Part) (f g : Fields) (c n : ℕ) → leaves_thread p ≡ true → put p f c n ≡ Ok g → g.thread_column ≡ f.thread_column
 thread_left Thread f g c n l h = absurd (both_ways false refl l)
-thread_left Address f g c n l h = ap (λ x. x.thread_column) (sym (ok_same _ g h))
-thread_left SameAddress f g c n l h = ap (λ x. x.thread_column) (sym (ok_same f g (test_ok (eqb n f.address.number) (Ok f) OtherAddress g h).1))
-thread_left Read f g c n l h = ap (λ x. x.thread_column) (sym (ok_same _ g h))
-thread_left Written f g c n l h = ap (λ x. x.thread_column) (sym (ok_same _ g h))
-thread_left (Fixed s) f g c n l h = ap (λ x. x.thread_column) (sym (ok_same f g h))
-thread_left LineEnd f g c n l h = ap (λ x. x.thread_column) (sym (ok_same f g h))
+thread_left Address f g c n l h = cc
+thread_left SameAddress f g c n l h = cc ((test_ok (eqb n f.address.number) (Ok f) OtherAddress g h).1)
+thread_left Read f g c n l h = cc
+thread_left Written f g c n l h = cc
+thread_left (Fixed s) f g c n l h = cc
+thread_left LineEnd f g c n l h = cc
 
 -- all parts but one leave the column of the address
 abbrev leaves_address : Part → Bool
@@ -77,13 +77,13 @@ leaves_address (Fixed s) = true
 leaves_address LineEnd = true
 
 address_left : (p : Part) (f g : Fields) (c n : ℕ) → leaves_address p ≡ true → put p f c n ≡ Ok g → g.address_column ≡ f.address_column
-address_left Thread f g c n l h = ap (λ x. x.address_column) (sym (ok_same _ g h))
+address_left Thread f g c n l h = cc
 address_left Address f g c n l h = absurd (both_ways false refl l)
-address_left SameAddress f g c n l h = ap (λ x. x.address_column) (sym (ok_same f g (test_ok (eqb n f.address.number) (Ok f) OtherAddress g h).1))
-address_left Read f g c n l h = ap (λ x. x.address_column) (sym (ok_same _ g h))
-address_left Written f g c n l h = ap (λ x. x.address_column) (sym (ok_same _ g h))
-address_left (Fixed s) f g c n l h = ap (λ x. x.address_column) (sym (ok_same f g h))
-address_left LineEnd f g c n l h = ap (λ x. x.address_column) (sym (ok_same f g h))
+address_left SameAddress f g c n l h = cc ((test_ok (eqb n f.address.number) (Ok f) OtherAddress g h).1)
+address_left Read f g c n l h = cc
+address_left Written f g c n l h = cc
+address_left (Fixed s) f g c n l h = cc
+address_left LineEnd f g c n l h = cc
 
 -- the column of the thread number is that of the first token
 thread_column : (ps : List Part) (f g : Fields) (a b : At) → each leaves_thread ps ≡ true → parts (Thread ∷ ps) f a ≡ Ok (g, b) → g.thread_column ≡ (skipped a).column

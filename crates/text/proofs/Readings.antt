@@ -18,7 +18,7 @@ use Rattle.text.specs.Grammar.{Spaces, Tokens, done, States, Line, blank, statin
 use Rattle.text.specs.Lines.{is_end, no_fields, line_from, start_of, instruction_of}
 use Rattle.text.specs.Texts.{lines_of, entered, placed_in, line_read, lines_read, text_read}
 use Rattle.text.specs.Faults.{Readable}
-use Rattle.text.proofs.Fits.{values, no_ok, ok_same, then_ok, then_then, then_same, Closed, closed_end, parts_fit, fit_parts}
+use Rattle.text.proofs.Fits.{values, ok_same, then_ok, then_then, then_same, Closed, closed_end, parts_fit, fit_parts}
 use Rattle.text.proofs.Forms.{form_parts, body_parts, stated, fit_states, states_fit, line_form, line_end, form_line}
 use Rattle.text.proofs.Gaps.{tokens_none, tokens_end}
 use Rattle.text.proofs.Splitting.{Unbroken, unbroken_nil, Splits, no_line, one_line, line_and, splits, lines_one, lines_more}
@@ -58,8 +58,8 @@ line_complete n bs is (stating {ts = ts} {i = i} h q) = let r = line_states n bs
 
 -- what is placed succeeds if it did
 pub placed_ok : (n : ℕ) (s : Statement) (r : Result (List Instruction) Refusal) (js : List Instruction) → placed_in n s r ≡ Ok js → r ≡ Ok js
-placed_ok n s (Ok is) js h = ap Ok (ok_same is js h)
-placed_ok n s (Err e) js h = absurd (no_ok _ js h)
+placed_ok n s (Ok is) js h = cc
+placed_ok n s (Err e) js h = cc
 
 -- what the line that was read as o states, and that it could be added
 entered_stated : (n : ℕ) (before : List Instruction) (bs : List ℕ) (mid : List Instruction) (o : Option Statement) → line_from (start_of n bs) ≡ Ok o → entered n before o ≡ Ok mid →
@@ -131,7 +131,7 @@ pub readable_from : (before : List Instruction) (bs : List ℕ) (after : List In
 readable_from before bs after h = go (ltb 16384 (length bs)) refl h
   where
     go : (t : Bool) → ltb 16384 (length bs) ≡ t → cond t (Err (record { cause = TooLong; line = 0; column = 0 })) (lines_read 1 before (lines_of bs)) ≡ Ok after → Readable before bs after
-    go true e h = absurd (no_ok _ after h)
+    go true e h = cc
     go false e h = (ltb-false 16384 (length bs) e, lines_from 1 before bs (lines_of bs) after (splits bs) h)
 
 -- a text that can be read is read so

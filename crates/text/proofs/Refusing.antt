@@ -16,7 +16,7 @@ use Rattle.text.specs.Grammar.{Spaces, blank}
 use Rattle.text.specs.Lines.{instruction_of, line_from, start_of}
 use Rattle.text.specs.Texts.{column_of, entered, line_read, lines_of, lines_read, placed_in, text_read}
 use Rattle.text.specs.Faults.{Faulty, LineOver, RefusedAt, TextFault, in_line, refused, later, too_long}
-use Rattle.text.proofs.Fits.{no_ok, ok_same, then_ok}
+use Rattle.text.proofs.Fits.{ok_same, then_ok}
 use Rattle.text.proofs.Faulting.{first_faults}
 use Rattle.text.proofs.Placing.{thread_at, address_at}
 use Rattle.text.proofs.Readings.{line_complete, line_of_reading, line_stated}
@@ -95,7 +95,7 @@ refused_at before n bs s e few l h = by e (admitted_tells before (instruction_of
 module _ (before : List Instruction) (n : ℕ) (bs rest : List ℕ) (few : length (addresses_of before) ≤ 16) (u : Unbroken bs) (over : LineOver rest) where
   -- a statement that cannot be added is the first fault
   statement_fault : (s : Statement) (r : Result (List Instruction) Refusal) (f : Fault) → line_from (start_of n bs) ≡ Ok (Some s) → admitted before (instruction_of s) ≡ r → placed_in n s r ≡ Err f → TextFault before n (bs ++ rest) f
-  statement_fault s (Ok is) f l a h = absurd (no_ok f is (sym h))
+  statement_fault s (Ok is) f l a h = cc
   statement_fault s (Err e) f l a h =
       let same : record { cause = Trace e; line = n; column = column_of e s } ≡ f = cc in
       subst (TextFault before n (bs ++ rest)) same
@@ -103,12 +103,12 @@ module _ (before : List Instruction) (n : ℕ) (bs rest : List ℕ) (few : lengt
 
   -- what a line was read as, and cannot be entered, is the first fault
   entry_fault : (o : Option Statement) (f : Fault) → line_from (start_of n bs) ≡ Ok o → entered n before o ≡ Err f → TextFault before n (bs ++ rest) f
-  entry_fault None f l h = absurd (no_ok f before (sym h))
+  entry_fault None f l h = cc
   entry_fault (Some s) f l h = statement_fault s (admitted before (instruction_of s)) f l refl h
 
   -- a line that is refused is not blank
   refused_not_blank : (f : Fault) → line_from (start_of n bs) ≡ Err f → Spaces bs → ⊥
-  refused_not_blank f h s = elim (line_complete n bs [] (blank s)) [ inl k ↦ no_ok f _ (sym h ∙ k.0) | inr k ↦ no_ok f _ (sym h ∙ k.1) ]
+  refused_not_blank f h s = elim (line_complete n bs [] (blank s)) [ inl k ↦ cc (h, k.0) | inr k ↦ cc (h, k.1) ]
 
   -- the fault of the first line is the first fault
   line_fault : (f : Fault) → line_read n before bs ≡ Err f → TextFault before n (bs ++ rest) f
@@ -124,11 +124,11 @@ module _ (before : List Instruction) (n : ℕ) (bs rest : List ℕ) (few : lengt
 -- lines that are refused make a text with that first fault
 lines_fault : (n : ℕ) (before : List Instruction) (bs : List ℕ) (ls : List (List ℕ)) (f : Fault) → length (addresses_of before) ≤ 16 → Splits bs ls → lines_read n before ls ≡ Err f → TextFault before n bs f
 unfolding lines_read
-lines_fault n before bs ls f few no_line h = absurd (no_ok f before (sym h))
+lines_fault n before bs ls f few no_line h = cc
 lines_fault n before bs ls f few (one_line u) h =
     elim (then_err (line_read n before bs) (λ js. Ok js) f h) [
       | inl e ↦ subst (λ l. TextFault before n l f) (append-nil bs) (line_fault before n bs [] few u (inl refl) f e)
-      | inr k ↦ absurd (no_ok f k.0 (sym k.2))
+      | inr k ↦ cc (k.2)
     ]
 lines_fault n before bs ls f few (line_and {bs = cs} {rest = rest} {ls = ms} u s) h =
     elim (then_err (line_read n before cs) (λ js. lines_read (n + 1) js ms) f h) [

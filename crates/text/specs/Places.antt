@@ -1,22 +1,14 @@
--- A reader's place, by the bytes of the line and the text that are left.
-use Rattle.std.specs.Prelude.{◌≡◌, ℕ, ◌+◌, ◌-◌, cond, List, [], ◌∷◌, take, drop, Ok, Err, Result, ◌==◌}
+-- The places of readers and of lines, by the bytes that are left.
+use Rattle.std.specs.Prelude.{◌≡◌, ℕ, ◌+◌, List, [], ◌∷◌, drop, Ok, Err, Result}
 use Rattle.text.specs.declared.fault.Fault.{Fault}
+use Rattle.text.specs.declared.reader.Lines.{Lines}
 use Rattle.text.specs.declared.reader.Reader.{Reader}
 use Rattle.text.specs.declared.token.Token.{Token}
 use Rattle.text.specs.declared.token.Token.TheVariants.{Digits, Fixed, LineEnd, Unknown}
 use Rattle.text.specs.Lines.{start_of}
+use Rattle.text.specs.Texts.{lines_of}
 use Rattle.text.specs.Tokens.{At}
 use Rattle.text.specs.Grammar.{Tok, number, fixed, ends, unknown}
-
--- the first line of a text, without its end
-abbrev pub first_line : List ℕ → List ℕ
-first_line [] = []
-first_line (b ∷ bs) = cond (b == 10) [] (b ∷ first_line bs)
-
--- what stands behind the end of the first line of a text
-abbrev pub behind_first : List ℕ → List ℕ
-behind_first [] = []
-behind_first (b ∷ bs) = cond (b == 10) bs (behind_first bs)
 
 -- a token by its bytes
 abbrev pub tok : Token → Tok
@@ -25,26 +17,18 @@ tok (Fixed s) = fixed s
 tok LineEnd = ends
 tok Unknown = unknown
 
--- the text from the reader's place on
-abbrev pub left : Reader → List ℕ
-left r = drop r.place r.text.now
+-- the starts of lines, the first of them the line n
+abbrev pub starts : ℕ → List (List ℕ) → List At
+starts n [] = []
+starts n (l ∷ ls) = start_of n l ∷ starts (n + 1) ls
 
--- the place in the reader's line
+-- the starts of the lines that are left
+abbrev pub left : Lines → List At
+left l = starts l.line (lines_of (drop l.place l.text.now))
+
+-- the reader's place in its line
 abbrev pub at : Reader → At
-at r = record { line = r.line; column = r.column; rest = take (r.line_end - r.place) (drop r.place r.text.now) }
-
--- the text behind the reader's line
-abbrev pub behind : Reader → List ℕ
-behind r = drop (r.line_end + 1) r.text.now
-
--- the reader is at the start of the line with the number n
-pub record Starts (n : ℕ) (r : Reader) : Type 0 where
-  pub place : at r ≡ start_of n (first_line (left r))
-  pub next : behind r ≡ behind_first (left r)
-
--- the reader has stayed in its line
-abbrev pub SameLine : Reader → Reader → Type 0
-SameLine r s = (behind s ≡ behind r) × (s.line ≡ r.line)
+at r = record { line = r.line; column = r.column; rest = drop r.place r.text.now }
 
 -- reading gives x: what it answers, and the place where it stands then
 abbrev pub Gives : {X : Type 0} → Result (X × At) Fault → Result X Fault → At → Type 0

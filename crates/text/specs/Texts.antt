@@ -1,5 +1,5 @@
 -- What a text makes of a draft's instructions, line by line, or its first fault.
-use Rattle.std.specs.Prelude.{◌≡◌, ℕ, ◌+◌, cond, List, [], ◌∷◌, length, take, Some, None, Ok, Err, Option, Result, ◌==◌, nat_lt}
+use Rattle.std.specs.Prelude.{◌≡◌, ℕ, ◌+◌, cond, List, [], ◌∷◌, length, Some, None, Ok, Err, Option, Result, ◌==◌, nat_lt}
 use Rattle.traces.specs.declared.entry.Instruction.{Instruction}
 use Rattle.traces.specs.declared.entry.Refusal.{Refusal}
 use Rattle.traces.specs.declared.entry.Refusal.TheVariants.{UnknownKind, TooManyEntries, TooManyThreads, TooManyAddresses}
@@ -60,12 +60,3 @@ text_read is bs = cond (nat_lt 16384 (length bs)) (Err too_long) (lines_read 1 i
 abbrev pub Enters : List Instruction → Statement → Result (Unit {0}) Cause → List Instruction → Type 0
 Enters before s (Ok _) after = admitted before (instruction_of s) ≡ Ok after
 Enters before s (Err e) after = ((refusal : Refusal) × (e ≡ Trace refusal) × (admitted before (instruction_of s) ≡ Err refusal)) × (after ≡ before)
-
--- the instructions `after` begin with those before
-abbrev pub Grown : List Instruction → List Instruction → Type 0
-Grown before after = take (length before) after ≡ before
-
--- what reading the lines of a text answers; at a fault, what was read up to it is there
-abbrev pub ReadsOn : List Instruction → List ℕ → Result (Unit {0}) Fault → List Instruction → Type 0
-ReadsOn before bs (Ok _) after = lines_read 1 before (lines_of bs) ≡ Ok after
-ReadsOn before bs (Err f) after = (lines_read 1 before (lines_of bs) ≡ Err f) × Grown before after

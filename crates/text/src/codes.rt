@@ -5,6 +5,7 @@ ghost use Rattle.text.specs.Numbers.{cause_layer, cause_number, shown_fault};
 use crate::fault::{Cause, Fault};
 use std::fmt;
 
+// Methods and not `From`, which could not tell the number and the layer apart: both are `u8`.
 impl Cause {
     pub fn number(self) -> u8
         ensures { result ≡ cause_number self }

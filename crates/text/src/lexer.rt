@@ -1,25 +1,30 @@
 // Lines and tokens from bytes.
-ghost use Rattle.std.specs.Prelude.{◌≡◌, ◌+◌, ◌<◌, ◌≤◌, length, drop, option_map, IfSome, ◌==◌};
-ghost use Rattle.std.specs.List.{prefix_len};
+ghost use Rattle.std.specs.Iterator.{YieldsFirstBy, item_count};
+ghost use Rattle.std.specs.List.{position_or_len};
+ghost use Rattle.std.specs.Prelude.{◌≡◌, ◌+◌, ◌≤◌, length, drop, option_map, IfSome, ◌==◌};
 ghost use Rattle.text.specs.Lines.{is_end};
-ghost use Rattle.text.specs.Places.{SameLine, Starts, at, behind, first_line, left, tok};
-ghost use Rattle.text.specs.Tokens.{next_token, on, past, skipped, symbol_at, symbol_width, token, width};
+ghost use Rattle.text.specs.Places.{at, left, starts, tok};
+ghost use Rattle.text.specs.Texts.{lines_of};
+ghost use Rattle.text.specs.Tokens.{digits, next_token, on, past, skipped, spaces, symbol_at, symbol_width, token, width};
 
-use crate::class::{ByteClass, Digit, Space};
-use crate::reader::Reader;
+use crate::reader::{Lines, Reader};
 use crate::token::{Located, Symbol, Token};
 use traces::first_equal;
 
-// How many bytes of a class `bytes` begins with.
-fn leading<C: ByteClass>(bytes: &[u8]) -> usize
+// How many digits `bytes` begins with.
+fn digits(bytes: &[u8]) -> usize
+    ensures count { result ≡ digits bytes.now }
     ensures within { result ≤ length bytes.now }
-    ensures count { result ≡ prefix_len C.member bytes.now }
 {
-    let mut n = 0;
-    while n < bytes.len() && C::has(bytes[n]) {
-        n += 1;
-    }
-    n
+    bytes.iter().take_while(|b| b.is_ascii_digit()).count()
+}
+
+// How many spaces `bytes` begins with. Two chains of one line are plainer than a trait with a type for each test.
+fn spaces(bytes: &[u8]) -> usize
+    ensures count { result ≡ spaces bytes.now }
+    ensures within { result ≤ length bytes.now }
+{
+    bytes.iter().take_while(|b| **b == b' ').count()
 }
 
 // The symbol that `bytes` begins with, as long as possible, and the rest.
@@ -52,10 +57,9 @@ fn token_at<'a>(bytes: &'a [u8]) -> (Token<'a>, usize)
     if bytes.is_empty() {
         return (Token::LineEnd, 0);
     }
-    let n = leading::<Digit>(bytes);
+    let n = digits(bytes);
     if n > 0 {
-        let (run, _) = bytes.split_at(n);
-        return (Token::Digits(run), n);
+        return (Token::Digits(&bytes[..n]), n);
     }
     match symbol_at(bytes) {
         Some((symbol, rest)) => (Token::Fixed(symbol), bytes.len() - rest.len()),
@@ -63,89 +67,86 @@ fn token_at<'a>(bytes: &'a [u8]) -> (Token<'a>, usize)
     }
 }
 
-// Where the line that `place` is in ends: at its line feed, or at the end of the text.
-fn end_of_line(text: &[u8], place: usize) -> usize
-    requires { place ≤ length text.now }
-    ensures { result ≡ place + length (first_line (drop place text.now)) }
+// How many bytes the first line of a text has, without its line feed.
+#[tactic(auto, using(crate::proofs::Lining::line_found))]
+fn line_len(text: &[u8]) -> usize
+    ensures len { result ≡ position_or_len (λ b. b == 10) text.now }
+    ensures within { result ≤ length text.now }
 {
-    let rest = &text[place..];
-    match first_equal(rest, &b'\n') {
-        Some(i) => place + i,
-        None => text.len(),
+    first_equal(text, &b'\n').unwrap_or(text.len())
+}
+
+impl<'a> Lines<'a> {
+    // All lines of a text.
+    pub(crate) fn new(text: &'a [u8]) -> Lines<'a>
+        ensures { left result ≡ starts 1 (lines_of text.now) }
+    {
+        Lines {
+            text,
+            place: 0,
+            line: 1,
+        }
+    }
+}
+
+// Gives a reader at the start of each line.
+impl<'a> Iterator for Lines<'a> {
+    type Item = Reader<'a>;
+
+    ghost next_gives = { YieldsFirstBy at left };
+
+    ghost remaining = { item_count left };
+
+    #[tactic(auto, using(crate::proofs::Lining::starts_none, crate::proofs::Lining::starts_more))]
+    fn next(&mut self) -> Option<Reader<'a>> {
+        if self.place >= self.text.len() {
+            return None;
+        }
+        let end = self.place + line_len(&self.text[self.place..]);
+        let reader = Reader {
+            text: &self.text[..end],
+            place: self.place,
+            line: self.line,
+            column: 1,
+        };
+        self.place = end + 1;
+        self.line += 1;
+        Some(reader)
     }
 }
 
 impl<'a> Reader<'a> {
-    // At the start of a text.
-    pub(crate) fn new(text: &'a [u8]) -> Reader<'a>
-        requires { length text.now ≤ 16384 }
-        ensures left { left result ≡ text.now }
-        ensures start { Starts 1 result }
-    {
-        Reader {
-            text,
-            place: 0,
-            line_end: end_of_line(text, 0),
-            line: 1,
-            column: 1,
-        }
-    }
-
-    // Whether no line is left; asked at the start of a line.
-    pub(crate) fn is_done(&self) -> bool
-        ensures { result ≡ (length (left self.now) == 0) }
-    {
-        self.place >= self.text.len()
-    }
-
-    // Goes to the start of the next line, or to the end of the text where this is the last.
-    pub(crate) fn next_line(&mut self)
-        ensures left { left self.new ≡ behind self.old }
-        ensures start { 0 < length (behind self.old) → Starts (self.old.line + 1) self.new }
-    {
-        if self.line_end >= self.text.len() {
-            self.place = self.line_end;
-            return;
-        }
-        self.place = self.line_end + 1;
-        self.line += 1;
-        self.column = 1;
-        self.line_end = end_of_line(self.text, self.place);
-    }
-
-    // Goes `count` bytes on in the line.
-    #[tactic(auto, using(crate::proofs::Moving::take_moved))]
+    // Goes `count` bytes on.
     fn advance(&mut self, count: usize)
-        requires { self.old.place + count ≤ self.old.line_end }
+        requires { self.old.place + count ≤ length self.old.text.now }
         ensures at { at self.new ≡ on count (at self.old) }
-        ensures behind { behind self.new ≡ behind self.old }
-        ensures end { self.new.line_end ≡ self.old.line_end }
+        ensures text { self.new.text ≡ self.old.text }
     {
         self.place += count;
         self.column += count;
     }
 
-    // Whether nothing but spaces is left of the line.
+    // Whether nothing but spaces is left.
     pub(crate) fn is_blank(&self) -> bool
         ensures { result ≡ is_end (next_token (at self.now)) }
     {
-        let rest = &self.text[self.place..self.line_end];
-        leading::<Space>(rest) == rest.len()
+        let rest = &self.text[self.place..];
+        spaces(rest) == rest.len()
     }
 
-    // The next token of the line, past the spaces before it.
+    // The next token, past the spaces before it.
+    #[tactic(auto, using(std::proofs::lemmas::List::take_rest))]
     pub(crate) fn next_token(&mut self) -> Located<'a>
         ensures token { tok result.token ≡ next_token (at self.old) }
         ensures line { result.line ≡ self.old.line }
         ensures column { result.column ≡ (skipped (at self.old)).column }
         ensures at { at self.new ≡ past (at self.old) }
-        ensures kept { SameLine self.old self.new }
     {
-        let spaces = leading::<Space>(&self.text[self.place..self.line_end]);
+        let spaces = spaces(&self.text[self.place..]);
         self.advance(spaces);
         let line = self.line;
         let column = self.column;
-        let (token, width) = token_at(&self.text[self.place..self.line_end]);
+        let (token, width) = token_at(&self.text[self.place..]);
         self.advance(width);
         Located {
             token,

@@ -1,6 +1,5 @@
 #![tactic(auto)]
 
-mod class;
 mod codes;
 mod fault;
 mod lexer;

@@ -1,8 +1,8 @@
 // What a line states, from its tokens.
-ghost use Rattle.std.specs.Prelude.{◌≡◌};
+ghost use Rattle.std.specs.Prelude.{◌≡◌, MatchResult};
 ghost use Rattle.traces.specs.declared.entry.Kind.TheVariants.{Swap};
 ghost use Rattle.text.specs.Lines.{accepted, accessed, body, is_end, is_symbol, line_from, number_in, parts, put, statement, swap_parts, value_of};
-ghost use Rattle.text.specs.Places.{Gives, SameLine, at, tok};
+ghost use Rattle.text.specs.Places.{Gives, at, tok};
 
 use crate::fault::{Cause, Fault};
 use crate::reader::Reader;
@@ -25,6 +25,7 @@ fn value_of(digits: &[u8]) -> Option<u64>
     ensures { result ≡ value_of digits.now }
 {
     let mut n: u64 = 0;
+    // A `for`, since over `try_fold` the proof did not close: it was left that the closure's `None` means 2^64 or more.
     for b in digits {
         let tens = n.checked_mul(10)?;
         n = tens.checked_add(u64::from(b.saturating_sub(b'0')))?;
@@ -35,28 +36,22 @@ fn value_of(digits: &[u8]) -> Option<u64>
 fn number_in(token: Token) -> Result<u64, Cause>
     ensures { result ≡ number_in (tok token.entry) }
 {
-    match token {
-        Token::Digits(run) => value_of(run).ok_or(Cause::TooLarge),
-        Token::Fixed(_) | Token::LineEnd | Token::Unknown => Err(Cause::Misfit),
-    }
+    let Token::Digits(run) = token else {
+        return Err(Cause::Misfit);
+    };
+    value_of(run).ok_or(Cause::TooLarge)
 }
 
 fn is_symbol(token: Token, symbol: Symbol) -> bool
     ensures { result ≡ is_symbol symbol (tok token.entry) }
 {
-    match token {
-        Token::Fixed(found) => found == symbol,
-        Token::Digits(_) | Token::LineEnd | Token::Unknown => false,
-    }
+    matches!(token, Token::Fixed(found) if found == symbol)
 }
 
 fn is_end(token: Token) -> bool
     ensures { result ≡ is_end (tok token.entry) }
 {
-    match token {
-        Token::LineEnd => true,
-        Token::Digits(_) | Token::Fixed(_) | Token::Unknown => false,
-    }
+    matches!(token, Token::LineEnd)
 }
 
 // The fields once the number `n`, at `column`, stands where `part` wants one.
@@ -93,16 +88,9 @@ fn accept(part: Part, fields: Fields, located: Located) -> Result<Fields, Cause>
     ensures { result ≡ accepted part fields located.entry.column (tok located.entry.token) }
 {
     match part {
-        Part::Fixed(symbol) => if is_symbol(located.token, symbol) {
-            Ok(fields)
-        } else {
-            Err(Cause::Misfit)
-        },
-        Part::LineEnd => if is_end(located.token) {
-            Ok(fields)
-        } else {
-            Err(Cause::Misfit)
-        },
+        Part::Fixed(symbol) if is_symbol(located.token, symbol) => Ok(fields),
+        Part::LineEnd if is_end(located.token) => Ok(fields),
+        Part::Fixed(_) | Part::LineEnd => Err(Cause::Misfit),
         Part::Thread | Part::Address | Part::SameAddress | Part::Read | Part::Written => {
             put_number(part, fields, located.column, number_in(located.token)?)
         }
@@ -110,15 +98,15 @@ fn accept(part: Part, fields: Fields, located: Located) -> Result<Fields, Cause>
 }
 
 impl Located<'_> {
-    // A fault at this token.
-    fn fault(self, cause: Cause) -> Fault
-        ensures { result ≡ record { cause = cause; line = self.entry.line; column = self.entry.column } }
+    // What came out at this token, its cause as a fault here.
+    fn placed<T>(self, outcome: Result<T, Cause>) -> Result<T, Fault>
+        ensures { MatchResult result (λ x. outcome ≡ Ok x) (λ e. (outcome ≡ Err e.cause) × (e.line ≡ self.entry.line) × (e.column ≡ self.entry.column)) }
     {
-        Fault {
+        outcome.map_err(|cause| Fault {
             cause,
             line: self.line,
             column: self.column,
-        }
+        })
     }
 }
 
@@ -126,49 +114,43 @@ impl Reader<'_> {
     // Reads the parts of a form, one token each.
     #[tactic(auto, using(crate::proofs::Parting::parts_more, crate::proofs::Parting::parts_all))]
     fn parts(&mut self, form: &[Part], start: Fields) -> Result<Fields, Fault>
-        ensures gives { Gives (parts form.now start (at self.old)) result (at self.new) }
-        ensures kept { SameLine self.old self.new }
+        ensures { Gives (parts form.now start (at self.old)) result (at self.new) }
     {
         let mut fields = start;
         for part in form {
             let located = self.next_token();
-            match accept(*part, fields, located) {
-                Ok(more) => fields = more,
-                Err(cause) => return Err(located.fault(cause)),
-            }
+            fields = located.placed(accept(*part, fields, located))?;
         }
         Ok(fields)
     }
 
+    // The statement of a kind whose parts are the rest of the line.
+    fn finish(mut self, kind: Kind, form: &[Part], fields: Fields) -> Result<Statement, Fault>
+        ensures { result ≡ statement kind (parts form.now fields (at self.entry)) }
+    {
+        let fields = self.parts(form, fields)?;
+        Ok(Statement { kind, fields })
+    }
+
     // What stands behind the address of a load or a store.
-    fn access(&mut self, fields: Fields) -> Result<Statement, Fault>
-        ensures is { result ≡ accessed fields (at self.old) }
-        ensures kept { SameLine self.old self.new }
+    fn access(mut self, fields: Fields) -> Result<Statement, Fault>
+        ensures { result ≡ accessed fields (at self.entry) }
     {
         let located = self.next_token();
         match located.token {
             Token::Fixed(Symbol::Equals) => {
-                let fields = self.parts(&[Part::Read, Part::LineEnd], fields)?;
-                Ok(Statement {
-                    kind: Kind::Load,
-                    fields,
-                })
+                self.finish(Kind::Load, &[Part::Read, Part::LineEnd], fields)
             }
             Token::Fixed(Symbol::Assign) => {
-                let fields = self.parts(&[Part::Written, Part::LineEnd], fields)?;
-                Ok(Statement {
-                    kind: Kind::Store,
-                    fields,
-                })
+                self.finish(Kind::Store, &[Part::Written, Part::LineEnd], fields)
             }
-            _ => Err(located.fault(Cause::Misfit)),
+            _ => located.placed(Err(Cause::Misfit)),
         }
     }
 
     // What stands behind the `<` of a swap.
-    fn swap(&mut self, fields: Fields) -> Result<Statement, Fault>
-        ensures is { result ≡ statement Swap (parts swap_parts fields (at self.old)) }
-        ensures kept { SameLine self.old self.new }
+    fn swap(self, fields: Fields) -> Result<Statement, Fault>
+        ensures { result ≡ statement Swap (parts swap_parts fields (at self.entry)) }
     {
         let swap = [
             Part::Fixed(Symbol::Memory),
@@ -187,17 +169,12 @@ impl Reader<'_> {
             Part::Fixed(Symbol::Greater),
             Part::LineEnd,
         ];
-        let fields = self.parts(&swap, fields)?;
-        Ok(Statement {
-            kind: Kind::Swap,
-            fields,
-        })
+        self.finish(Kind::Swap, &swap, fields)
     }
 
     // What stands behind the thread number and the colon.
-    fn body(&mut self, fields: Fields) -> Result<Statement, Fault>
-        ensures is { result ≡ body fields (at self.old) }
-        ensures kept { SameLine self.old self.new }
+    fn body(mut self, fields: Fields) -> Result<Statement, Fault>
+        ensures { result ≡ body fields (at self.entry) }
     {
         let located = self.next_token();
         match located.token {
@@ -211,27 +188,20 @@ impl Reader<'_> {
                 self.access(fields)
             }
             Token::Fixed(Symbol::Less) => self.swap(fields),
-            Token::Fixed(Symbol::Sync) => {
-                let fields = self.parts(&[Part::LineEnd], fields)?;
-                Ok(Statement {
-                    kind: Kind::Sync,
-                    fields,
-                })
-            }
-            _ => Err(located.fault(Cause::Misfit)),
+            Token::Fixed(Symbol::Sync) => self.finish(Kind::Sync, &[Part::LineEnd], fields),
+            _ => located.placed(Err(Cause::Misfit)),
         }
     }
 
     // What the line states from its start on: nothing where it has no token.
-    pub(crate) fn statement(&mut self) -> Result<Option<Statement>, Fault>
-        ensures is { result ≡ line_from (at self.old) }
-        ensures kept { SameLine self.old self.new }
+    pub(crate) fn statement(mut self) -> Result<Option<Statement>, Fault>
+        ensures { result ≡ line_from (at self.entry) }
     {
         if self.is_blank() {
             return Ok(None);
         }
         let head = [Part::Thread, Part::Fixed(Symbol::Colon)];
         let fields = self.parts(&head, NO_FIELDS)?;
-        Ok(Some(self.body(fields)?))
+        self.body(fields).map(Some)
     }
 }

@@ -1,15 +1,24 @@
-// A place in a text.
+// Places in a text.
 ghost use Rattle.std.specs.Prelude.{◌+◌, ◌≤◌, length};
 
-// Borrows the text, and stands at one of its bytes or behind the last, in the line that ends at `line_end`.
+// The lines of a text from `place` on, of which the first has the number `line`. It keeps the place, which bounds that number.
+#[derive(Drop)]
+pub struct Lines<'a> {
+    pub(crate) text: &'a [u8],
+    pub(crate) place: usize,
+    pub(crate) line: usize,
+    ghost within: { place ≤ length text.now + 1 },
+    ghost counted: { line ≤ place + 1 },
+}
+
+// Borrows the text up to the end of a line, and stands at one of that line's bytes or behind its last.
+// It keeps its place and not the rest alone, since the place bounds the column.
 #[derive(Drop)]
 pub struct Reader<'a> {
     pub(crate) text: &'a [u8],
     pub(crate) place: usize,
-    pub(crate) line_end: usize,
     pub(crate) line: usize,
     pub(crate) column: usize,
-    ghost short: { length text.now ≤ 16384 },
-    ghost within: { (place ≤ line_end) × (line_end ≤ length text.now) },
-    ghost counted: { (line ≤ place + 1) × (column ≤ place + 1) },
+    ghost within: { place ≤ length text.now },
+    ghost counted: { column ≤ place + 1 },
 }

@@ -1,8 +1,11 @@
 // What a line is made of, and what it states.
-use crate::token::Symbol;
-use traces::{Address, Kind};
+ghost use Rattle.std.specs.Prelude.{◌≡◌};
+ghost use Rattle.text.specs.Lines.{instruction_of};
 
-// What a line has to have next.
+use crate::token::Symbol;
+use traces::{Address, Instruction, Kind};
+
+// What a line has to have next. The line forms are lists of these, since a call for each part would say no more.
 #[derive(Clone, Copy)]
 pub enum Part {
     Thread,
@@ -14,7 +17,8 @@ pub enum Part {
     LineEnd,
 }
 
-// The numbers of a line, 0 where they have not come yet, and the columns at which a refusal is placed.
+// The numbers of a line, and the columns of the two at which a refusal is placed. 0 is where none has come yet:
+// each form of a line has all the numbers of its kind, and in an instruction too the others are 0.
 #[derive(Clone, Copy)]
 pub struct Fields {
     pub thread: u64,
@@ -30,4 +34,19 @@ pub struct Fields {
 pub struct Statement {
     pub kind: Kind,
     pub fields: Fields,
+}
+
+impl From<Statement> for Instruction {
+    ghost from_gives = { λ statement instruction. instruction ≡ instruction_of statement };
+
+    fn from(statement: Statement) -> Instruction {
+        let Statement { kind, fields } = statement;
+        Instruction::new(
+            fields.thread,
+            kind,
+            fields.address,
+            fields.read,
+            fields.written,
+        )
+    }
 }

@@ -24,7 +24,7 @@ pub enum Token<'a> {
     Unknown,
 }
 
-// A token and where it begins.
+// A token and where it begins, in two numbers as in `Fault`, since no function takes the two without the rest.
 #[derive(Clone, Copy)]
 pub struct Located<'a> {
     pub token: Token<'a>,
