@@ -106,7 +106,7 @@ module _ (is : List Instruction) (p : Preserved) where
       go : (next : Option OrderPosition) → place is p s e ≡ next → onward next (λ after. run (place is p) after o) ≡ Some q
           → ((after : OrderPosition) → run (place is p) after o ≡ Some q → ends_after is p (left is after) after ≡ true)
           → ends_after is p (left is s) s ≡ true
-      go None a b rest = absurd (let z : ◌≡◌ {A = ℕ} 0 1 = cc in omega arith)
+      go None a b rest = absurd cc
       go (Some after) a b rest =
           let step = place_ready is p s after e a in
           let one_less : left is s ≡ suc (left is after) =

@@ -27,7 +27,7 @@ module _ {S : Type 0} (step : S → ℕ → Option S) (carries : S → ℕ → L
       go : (found : Option S) → onward found (λ v. run step v cs) ≡ Some u
           → ((v : S) → run step v cs ≡ Some u → run step v (cs ++ ds) ≡ run step u ds)
           → onward found (λ v. run step v (cs ++ ds)) ≡ run step u ds
-      go None h rest = absurd (let z : ◌≡◌ {A = ℕ} 0 1 = cc in omega arith)
+      go None h rest = absurd cc
       go (Some v) h rest = rest v h
 
   -- what both carry out is what the first does and then the second
@@ -40,7 +40,7 @@ module _ {S : Type 0} (step : S → ℕ → Option S) (carries : S → ℕ → L
           → ((v : S) → run step v cs ≡ Some u → carried_out step carries v (cs ++ ds) ≡ carried_out step carries v cs ++ carried_out step carries u ds)
           → carries s c ++ listed_from found (λ v. carried_out step carries v (cs ++ ds))
           ≡ (carries s c ++ listed_from found (λ v. carried_out step carries v cs)) ++ carried_out step carries u ds
-      go None h rest = absurd (let z : ◌≡◌ {A = ℕ} 0 1 = cc in omega arith)
+      go None h rest = absurd cc
       go (Some v) h rest =
           ap (λ x. carries s c ++ x) (rest v h)
           ∙ sym (append_assoc (carries s c) (carried_out step carries v cs) (carried_out step carries u ds))
@@ -61,7 +61,7 @@ module _ (is : List Instruction) (p : Preserved) where
       → (e : ℕ) × (found ≡ Some e)
       × (((p.waits e ≡ true) × (u ≡ joined (counted q t) e)) ⊎ ((p.waits e ≡ false) × (carry is p (counted q t) e ≡ Some u)))
   unfolding issue
-  issue_cases q u t None h = absurd (let z : ◌≡◌ {A = ℕ} 0 1 = cc in omega arith)
+  issue_cases q u t None h = absurd cc
   issue_cases q u t (Some e) h = (
     e,
     refl,
@@ -81,7 +81,7 @@ module _ (is : List Instruction) (p : Preserved) where
     | inl waits ↦ (waits, sym (cond-true _ _ _ waits) ∙ h)
     | inr waits-not ↦
         let none : None ≡ Some u = sym (cond-false _ _ _ waits-not) ∙ h in
-        absurd (let z : ◌≡◌ {A = ℕ} 0 1 = cc in omega arith)
+        absurd cc
   ]
 
   -- an entry that is carried out changes nothing of what waits
@@ -94,7 +94,7 @@ module _ (is : List Instruction) (p : Preserved) where
         ap (λ (x : RulesPosition). x.waiting) after
     | inr may-not ↦
         let none : None ≡ Some u = sym (cond-false _ _ _ may-not) ∙ h in
-        absurd (let z : ◌≡◌ {A = ℕ} 0 1 = cc in omega arith)
+        absurd cc
   ]
 
 -- every waiting entry is one of the trace
@@ -160,7 +160,7 @@ run_waiting_below is p (c ∷ cs) q u below h = go (act is p q c) refl h (λ v v
     go : (found : Option RulesPosition) → act is p q c ≡ found → onward found (λ v. run (act is p) v cs) ≡ Some u
         → ((v : RulesPosition) → WaitingBelow is v → run (act is p) v cs ≡ Some u → WaitingBelow is u)
         → WaitingBelow is u
-    go None a h rest = absurd (let z : ◌≡◌ {A = ℕ} 0 1 = cc in omega arith)
+    go None a h rest = absurd cc
     go (Some v) a h rest = rest v (act_waiting_below is p q v below c a) h
 
 -- every position that codes reach from the opening has only entries of the trace waiting
@@ -300,7 +300,7 @@ module _ (is : List Instruction) (p : Preserved) (slotted : Slotted is) (laws : 
       go : (found : Option RulesPosition) → act is p q c ≡ found → onward found (λ v. run (act is p) v cs) ≡ Some end
           → ((v : RulesPosition) → Queued is v → run (act is p) v cs ≡ Some end → Left is p v (carried_out (act is p) (acts is p) v cs))
           → Left is p q (carried_out (act is p) (acts is p) q (c ∷ cs))
-      go None a h rest = absurd (let z : ◌≡◌ {A = ℕ} 0 1 = cc in omega arith)
+      go None a h rest = absurd cc
       go (Some v) a h rest =
           let A : Option RulesPosition → Type 0 =
           λ x. Left is p q (acts is p q c ++ listed_from x (λ w. carried_out (act is p) (acts is p) w cs)) in

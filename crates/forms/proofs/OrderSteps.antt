@@ -155,3 +155,6 @@ done_is f outside b complement common apart = ap not (go b common apart)
         (i.0, ltb-true _ _ (sym (f.ordered.whole i.0) ∙ i.2), sym (complement i.0 i.1) ∙ i.3))
     go false common apart = sym (some_below_none (unplaced (shown f)) (length (traced f)) (λ i l u. apart refl i
         (f.ordered.whole i ∙ lt-ltb _ _ l) (complement i (omega (arith, l, few_entries f.ordered.trace.contents)) ∙ u)))
+
+-- what the moves need of an entry that is found, and of one that is not
+pub ruleset moving = (slot_below, step_missing, no_step_back)

@@ -1,18 +1,20 @@
 -- The preserved order under a model: its laws, and what a stricter model keeps.
-use Rattle.std.specs.Prelude.{◌≡◌, ℕ, ◌<◌, ◌≤◌, true, false, ◌&&◌, ltb, List, length, Some, None, ◌≢◌, nat_lt}
-use Rattle.std.proofs.Common.{sym, ◌∙◌, ap, inl, inr, arith}
-use Rattle.std.specs.List.{slice_get}
-use Rattle.std.proofs.lemmas.Option.{slice_get-get_or, slice_get_past}
-use Rattle.std.proofs.lemmas.Bool.{and_from, and_parts, cases_lt, eq-eqb, eqb-true, lt-ltb, ltb-true}
+use Rattle.std.specs.Prelude.{◌≡◌, ℕ, ◌<◌, ◌≤◌, Bool, true, false, cond, not, ◌&&◌, ◌||◌, ◌↔◌, List, length, nat_lt, slice_index_or}
+use Rattle.std.proofs.Common.{sym, subst, ◌∙◌, inl, inr, arith}
+use Rattle.std.specs.List.{list_all, range_with_len}
+use Rattle.std.proofs.lemmas.Bool.{and_from, and_parts, both_ways, cases_Bool, cases_lt, eqb-true, false_from_ne_true, ltb-true, not-true, not_from_false, or_cases, or_left, or_right}
+use Rattle.std.proofs.lemmas.List.Sums.{AllPass-from_list_all, count_by-le-length, list_all-from_AllPass, sum_by-le}
+use Rattle.std.proofs.lemmas.List.FromFn.{get_or-range_with_len, length-range_with_len}
+use Rattle.traces.specs.declared.contents.Contents.{Contents}
 use Rattle.traces.specs.declared.entry.Instruction.{Instruction}
+use Rattle.traces.specs.Instructions.{instructions}
+use Rattle.traces.proofs.Holding.{few_entries}
 use Rattle.traces.specs.Kinds.{addressed, writes}
 use Rattle.models.specs.declared.access.Access.{Access}
-use Rattle.models.specs.Accesses.{access_of}
 use Rattle.models.specs.Tables.{AtLeastAsStrict, Tables}
-use Rattle.forms.specs.Entries.{Earlier, instruction_at}
-use Rattle.forms.specs.KeptPairs.{KeepsNoFewerOf, is_earlier, keeps, waiting}
+use Rattle.forms.specs.Entries.{Earlier}
+use Rattle.forms.specs.KeptPairs.{is_earlier, keeps, kept_before, no_fewer_before}
 use Rattle.forms.specs.PreservedOrder.{KeepsNoFewer, Laws, Preserved, preserved}
-use Rattle.forms.specs.Lemmas.Basics.{never}
 use Rattle.forms.specs.Lemmas.Tabled.{earlier_from}
 
 -- the two laws of a model, at the entries of a trace
@@ -31,48 +33,12 @@ pub preserved_strict : (a b : Tables) → AtLeastAsStrict a b → (is : List Ins
 unfolding preserved
 preserved_strict a b h is i j er l k = h _ _ k
 
--- an entry that is found
-pub found : (is : List Instruction) (i : ℕ) (x : Instruction) → slice_get is i ≡ Some x → (i < length is) × (instruction_at is i ≡ x)
-found is i x h = elim (cases_lt i (length is)) [
-  | inl l ↦ (l, let e : Some (instruction_at is i) ≡ Some x = sym (slice_get-get_or is i _ l) ∙ h in cc)
-  | inr l ↦ absurd (let n : None ≡ Some x = sym (slice_get_past is i l) ∙ h in let z : ◌≡◌ {A = ℕ} 0 1 = cc in omega arith)
-]
-
--- an entry that is not found
-pub not_found : (is : List Instruction) (i : ℕ) → slice_get is i ≡ None → length is ≤ i
-not_found is i h = elim (cases_lt i (length is)) [
-  | inl l ↦ absurd (let n : Some (instruction_at is i) ≡ None = sym (slice_get-get_or is i _ l) ∙ h in let z : ◌≡◌ {A = ℕ} 0 1 = cc in omega arith)
-  | inr l ↦ l
-]
-
 -- what it is for an entry to be an earlier one of another's thread
 pub earlier_parts : (is : List Instruction) (i j : ℕ) → is_earlier is i j ≡ true → Earlier is i j × (j < length is)
 earlier_parts is i j h =
     let a = and_parts (nat_lt i j && nat_lt j (length is)) _ h in
     let b = and_parts (nat_lt i j) (nat_lt j (length is)) a.0 in
     ((ltb-true _ _ b.0, eqb-true _ _ a.1), ltb-true _ _ b.1)
-
--- no entry that is not there is an earlier one
-pub earlier_no_first : (is : List Instruction) (i j : ℕ) → slice_get is i ≡ None → false ≡ is_earlier is i j
-earlier_no_first is i j h = sym (never _ (λ e. let a = earlier_parts is i j e in omega (arith, not_found is i h, a.0.0, a.1)))
-
--- and none is earlier than an entry that is not there
-pub earlier_no_second : (is : List Instruction) (i j : ℕ) → slice_get is j ≡ None → false ≡ is_earlier is i j
-earlier_no_second is i j h = sym (never _ (λ e. omega (arith, not_found is j h, (earlier_parts is i j e).1)))
-
-module _ (is : List Instruction) (i j : ℕ) (x y : Instruction) (at_i : slice_get is i ≡ Some x) (at_j : slice_get is j ≡ Some y) where
-  -- an entry is earlier than one of its thread with a greater number
-  pub earlier_found : i < j → x.thread ≡ y.thread → is_earlier is i j ≡ true
-  earlier_found l t =
-      let a = found is i x at_i in
-      let b = found is j y at_j in
-      and_from _ _ (and_from _ _ (lt-ltb _ _ l) (lt-ltb _ _ b.0)) (eq-eqb _ _ (rw (a.1, b.1) t))
-
-  -- and than no other one
-  pub earlier_apart : (i < j → x.thread ≢ y.thread) → false ≡ is_earlier is i j
-  earlier_apart no-pair = sym (never _ (λ e.
-      let a = earlier_parts is i j e in
-      no-pair a.0.0 (rw (← (found is i x at_i).1, ← (found is j y at_j).1) a.0.1)))
 
 -- what it is for a pair to be kept
 pub keeps_parts : (is : List Instruction) (p : Preserved) (i j : ℕ) → keeps is p i j ≡ true
@@ -85,39 +51,48 @@ keeps_parts is p i j h =
 pub keeps_from : (is : List Instruction) (p : Preserved) (i j : ℕ) → Earlier is i j → j < length is → p.ahead i j ≡ true → keeps is p i j ≡ true
 keeps_from is p i j er l h = and_from _ _ (earlier_from is i j er l) h
 
--- no pair is kept with an entry that is not there
-pub keeps_no_first : (is : List Instruction) (p : Preserved) (i j : ℕ) → slice_get is i ≡ None → false ≡ keeps is p i j
-keeps_no_first is p i j h = ap (λ b. b && p.ahead i j) (earlier_no_first is i j h)
+-- the number at a place of those from 0 on is that of the place
+at_place : (n i d : ℕ) → i < n → slice_index_or (range_with_len 0 n) i d ≡ i
+at_place n i d below = get_or-range_with_len 0 n i d below ∙ omega arith
 
-pub keeps_no_second : (is : List Instruction) (p : Preserved) (i j : ℕ) → slice_get is j ≡ None → false ≡ keeps is p i j
-keeps_no_second is p i j h = ap (λ b. b && p.ahead i j) (earlier_no_second is i j h)
-
-module _ (m : Tables) (is : List Instruction) (i j : ℕ) (x y : Instruction) (at_i : slice_get is i ≡ Some x) (at_j : slice_get is j ≡ Some y) where
-  -- a pair of one thread is kept as the model says
-  pub keeps_found : i < j → x.thread ≡ y.thread → m.ahead (access_of x) (access_of y) ≡ keeps is (preserved m is) i j
-  unfolding preserved
-  keeps_found l t =
-      let e = earlier_found is i j x y at_i at_j l t in
-      let h : m.ahead (access_of (instruction_at is i)) (access_of (instruction_at is j)) ≡ keeps is (preserved m is) i j = rw e in
-      rw (← (found is i x at_i).1, ← (found is j y at_j).1) h
-
-  -- and another one is not
-  pub keeps_apart : (i < j → x.thread ≢ y.thread) → false ≡ keeps is (preserved m is) i j
-  keeps_apart no-pair = ap (λ b. b && (preserved m is).ahead i j) (earlier_apart is i j x y at_i at_j no-pair)
-
-pub waits_found : (m : Tables) (is : List Instruction) (i : ℕ) (x : Instruction) → slice_get is i ≡ Some x
-    → m.waiting x.kind ≡ waiting is (preserved m is) i
-unfolding preserved
-waits_found m is i x h = let a = found is i x h in let e : ltb i (length is) ≡ true = lt-ltb _ _ a.0 in rw (e, a.1)
-
-pub waits_missing : (is : List Instruction) (p : Preserved) (i : ℕ) → slice_get is i ≡ None → false ≡ waiting is p i
-waits_missing is p i h = sym (never _ (λ k. omega (arith, not_found is i h, ltb-true i (length is) (and_parts _ _ k).0)))
+-- a test passes at all numbers below n exactly where it passes at each
+all_below : (test : ℕ → Bool) (n : ℕ) → (list_all test (range_with_len 0 n) ≡ true) ↔ ((i : ℕ) → i < n → test i ≡ true)
+all_below test n = (
+  λ h i below. subst (λ k. test k ≡ true) (at_place n i 0 below)
+      (AllPass-from_list_all test (range_with_len 0 n) h i 0 (omega (arith, below, length-range_with_len 0 n))),
+  λ h. list_all-from_AllPass test (range_with_len 0 n) (λ k d l.
+      let below : k < n = omega (arith, l, length-range_with_len 0 n) in
+      subst (λ i. test i ≡ true) (sym (at_place n k d below)) (h k below)),
+)
 
 -- no fewer pairs are kept exactly where no fewer entries are kept ahead of each one
-pub no_fewer_all : (is : List Instruction) (p q : Preserved) → ((j : ℕ) → j < length is → KeepsNoFewerOf is p q j j) → KeepsNoFewer is p q
-no_fewer_all is p q h i j er l a = (keeps_parts is p i j (h j l i er.0 (keeps_from is q i j er l a))).2
+pub no_fewer : (is : List Instruction) (p q : Preserved)
+    → (list_all (no_fewer_before (keeps is p) (keeps is q)) (range_with_len 0 (length is)) ≡ true) ↔ KeepsNoFewer is p q
+no_fewer is p q = (
+  λ all i j er l a.
+      let each = (all_below (λ i. not (keeps is q i j) || keeps is p i j) j).0 ((all_below (no_fewer_before (keeps is p) (keeps is q)) (length is)).0 all j l) i er.0 in
+      elim (or_cases _ _ each) [
+        | inl kept-not ↦ absurd (both_ways (keeps is q i j) (not-true _ kept-not) (keeps_from is q i j er l a))
+        | inr kept ↦ (keeps_parts is p i j kept).2
+      ],
+  λ h. (all_below (no_fewer_before (keeps is p) (keeps is q)) (length is)).1
+      (λ j l. (all_below (λ i. not (keeps is q i j) || keeps is p i j) j).1
+      (λ i before. elim (cases_Bool (keeps is q i j)) [
+        | inl kept ↦ let a = keeps_parts is q i j kept in or_right _ _ (keeps_from is p i j a.0 a.1 (h i j a.0 a.1 a.2))
+        | inr kept-not ↦ or_left _ _ (not_from_false _ kept-not)
+      ])),
+)
 
-pub no_fewer_each : (is : List Instruction) (p q : Preserved) → KeepsNoFewer is p q → (j : ℕ) → KeepsNoFewerOf is p q j j
-no_fewer_each is p q h j i l k =
-    let a = keeps_parts is q i j k in
-    keeps_from is p i j a.0 a.1 (h i j a.0 a.1 a.2)
+-- at most 64 entries keep ahead of one, as a trace has no more
+pub kept_before_few : (x : Contents) (p : Preserved) (j : ℕ) → kept_before (instructions x) p j ≤ 64
+kept_before_few x p j = elim (cases_lt j 64) [
+  | inl low ↦ omega (arith, count_by-le-length (λ i. keeps (instructions x) p i j) (range_with_len 0 j), length-range_with_len 0 j)
+  | inr past ↦
+      let none : (i : ℕ) → keeps (instructions x) p i j ≡ false =
+      λ i. false_from_ne_true _ (λ e. omega (arith, (keeps_parts (instructions x) p i j e).1, few_entries x)) in
+      omega (
+        arith,
+        sum_by-le (λ i. cond (keeps (instructions x) p i j) 1 0) 0 (range_with_len 0 j)
+            (λ k d l. rw (none (slice_index_or (range_with_len 0 j) k d)) (omega arith)),
+      )
+]

@@ -216,7 +216,7 @@ module _ (is : List Instruction) (p : Preserved) (q : RulesPosition) (P : ℕ �
         )
     | inr may-not ↦
         let none : None ≡ Some u = sym (cond-false _ _ _ may-not) ∙ h in
-        absurd (let z : ◌≡◌ {A = ℕ} 0 1 = cc in omega arith)
+        absurd cc
   ]
 
   -- an entry that is ready is carried out

@@ -8,7 +8,7 @@ use Rattle.traces.specs.Slots.{slot}
 use Rattle.forms.specs.Entries.{Earlier, instruction_at}
 use Rattle.forms.specs.RulesMachine.{RulesPosition, next, rank, thread_slot}
 use Rattle.forms.specs.Lemmas.Basics.{last_below_none, last_below_some}
-use Rattle.forms.specs.Lemmas.Counting.{count_range_more}
+use Rattle.forms.specs.Lemmas.Counting.{count_suc}
 
 -- the slots of the threads of a trace: there are at most 8, and different threads have different ones
 pub record Slotted (is : List Instruction) : Type 0 where
@@ -25,9 +25,7 @@ on_thread is thread k = count_by (λ i. eqb (instruction_at is i).thread thread)
 
 -- one number more
 thread_more : (is : List Instruction) (thread k : ℕ) → on_thread is thread (suc k) ≡ on_thread is thread k + cond (eqb (instruction_at is k).thread thread) 1 0
-thread_more is thread k =
-    let next-number : suc k ≡ k + 1 = omega arith in
-    ap (on_thread is thread) next-number ∙ count_range_more (λ i. eqb (instruction_at is i).thread thread) k (eqb (instruction_at is k).thread thread) refl
+thread_more is thread k = count_suc (λ i. eqb (instruction_at is i).thread thread) k (eqb (instruction_at is k).thread thread) refl
 
 -- an entry of the thread counts
 thread_here : (is : List Instruction) (thread k : ℕ) → (instruction_at is k).thread ≡ thread → on_thread is thread (suc k) ≡ suc (on_thread is thread k)

@@ -1,6 +1,6 @@
 -- Pairs of entries of one thread, and how many of them are kept in their sequence.
-use Rattle.std.specs.Prelude.{◌≡◌, ℕ, ◌<◌, Bool, true, ◌&&◌, List, length, sum_by, count_by, ◌==◌, nat_lt}
-use Rattle.std.specs.List.{range_with_len}
+use Rattle.std.specs.Prelude.{ℕ, Bool, not, ◌&&◌, ◌||◌, List, length, sum_by, count_by, ◌==◌, nat_lt}
+use Rattle.std.specs.List.{list_all, range_with_len}
 use Rattle.traces.specs.declared.entry.Instruction.{Instruction}
 use Rattle.forms.specs.Entries.{instruction_at}
 use Rattle.forms.specs.PreservedOrder.{Preserved}
@@ -29,6 +29,6 @@ kept_before is p j = count_by (λ i. keeps is p i j) (range_with_len 0 j)
 abbrev pub kept_pairs : List Instruction → Preserved → ℕ
 kept_pairs is p = sum_by (kept_before is p) (range_with_len 0 (length is))
 
--- the first keeps ahead of j every entry below k that the second keeps ahead of it
-abbrev pub KeepsNoFewerOf : List Instruction → Preserved → Preserved → ℕ → ℕ → Type 0
-KeepsNoFewerOf is p q j k = (i : ℕ) → i < k → keeps is q i j ≡ true → keeps is p i j ≡ true
+-- whether the first of two tests of pairs passes with j at each number below j at which the second does
+abbrev pub no_fewer_before : (ℕ → ℕ → Bool) → (ℕ → ℕ → Bool) → ℕ → Bool
+no_fewer_before k l j = list_all (λ i. not (l i j) || k i j) (range_with_len 0 j)

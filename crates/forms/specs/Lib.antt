@@ -12,3 +12,4 @@ pub mod PreservedOrder
 pub mod RulesMachine
 pub mod Runs
 pub mod Traced
+pub mod UnderModel

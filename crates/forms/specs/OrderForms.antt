@@ -17,7 +17,7 @@ traced f = instructions_of f.ordered.trace
 
 -- the preserved order of its trace
 abbrev pub kept_in : {X : Type 0} → OrderForm X → Preserved
-kept_in f = tabled f.ordered.waiting f.ordered.ahead
+kept_in f = tabled f.ordered.waiting f.ordered.links
 
 -- its position: which entries are placed, and what memory holds at each address
 abbrev pub shown : {X : Type 0} → OrderForm X → OrderPosition

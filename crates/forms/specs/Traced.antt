@@ -3,7 +3,7 @@ use Rattle.std.specs.Prelude.{List}
 use Rattle.traces.specs.declared.draft.Trace.{Trace}
 use Rattle.traces.specs.declared.entry.Instruction.{Instruction}
 use Rattle.traces.specs.Instructions.{instructions}
-use Rattle.models.specs.declared.model.Model.{Ghosts}
+use Rattle.models.specs.declared.model.MemoryModel.{Ghosts}
 use Rattle.models.specs.Meaning.{tables_of}
 use Rattle.forms.specs.PreservedOrder.{Preserved, preserved}
 

@@ -11,7 +11,7 @@ pub trait Form {
     const CODES: u32;
 
     // that number: the codes are those below it
-    ghost limit: { ℕ };
+    ghost CODES: { ℕ };
 
     // the instructions of the trace
     ghost instructions: { Self → List Instruction };
@@ -39,9 +39,13 @@ pub trait Form {
 
     // The number of step codes.
     fn limit() -> u32
-        ensures { result ≡ limit };
+        ensures { result ≡ CODES }
+    {
+        Self::CODES
+    }
 
     // Moves by a code and tells what to note, or refuses and stays.
+    // A code and a note are each one number for every form, so that one walk can keep those of any form in plain lists.
     fn advance(&mut self, code: u16) -> Option<u64>
         ensures { MatchOption result ((step self.old code ≡ None) × (self.new ≡ self.old)) (λ n. (step self.old code ≡ Some self.new) × (n ≡ note self.old code)) };
 
@@ -52,12 +56,12 @@ pub trait Form {
     fn is_finished(&self) -> bool
         ensures { result ≡ finished self.now };
 
-    ghost some: { 1 ≤ limit };
+    ghost some: { 1 ≤ CODES };
 
-    ghost few: { limit ≤ 65536 };
+    ghost few: { CODES ≤ 65536 };
 
     // a step has one of the codes
-    ghost within: { (p q : Self) (code : ℕ) → step p code ≡ Some q → code < limit };
+    ghost within: { (p q : Self) (code : ℕ) → step p code ≡ Some q → code < CODES };
 
     // a step keeps the trace and its order
     ghost stays: { (p q : Self) (code : ℕ) → step p code ≡ Some q → opening q ≡ opening p };

@@ -1,36 +1,50 @@
-// The preserved program order of a trace under a model, by the numbers of its entries.
-ghost use Rattle.std.specs.Prelude.{◌≡◌};
-ghost use Rattle.forms.specs.PreservedOrder.{Laws};
-ghost use Rattle.forms.specs.KeptPairs.{keeps, waiting};
-ghost use Rattle.forms.specs.Traced.{instructions_of, order_of};
+// The preserved order by the numbers of the entries.
+ghost use Rattle.std.specs.Prelude.{◌≡◌, if◌then◌else◌, Some, None};
+ghost use Rattle.forms.specs.Entries.{instruction_at};
+ghost use Rattle.forms.specs.KeptPairs.{is_earlier, keeps, waiting};
+ghost use Rattle.forms.specs.Traced.{instructions_of};
+ghost use Rattle.forms.specs.UnderModel.{kept_by, traced_by};
 
-use models::{Access, Model};
-use traces::Trace;
+use crate::preserved_order::PreservedOrder;
+use models::{Access, MemoryModel};
+use traces::{Instruction, Trace};
 
-// Whether there is an entry i, and it waits.
-pub fn waits<M: Model>(trace: &Trace, model: &M, i: usize) -> bool
-    ensures waits { result ≡ waiting (instructions_of trace.now) (order_of M.Model model.now trace.now) i }
-    ensures laws { Laws (instructions_of trace.now) (order_of M.Model model.now trace.now) }
-{
-    let Some(instruction) = trace.instruction(i) else {
-        return false;
-    };
-    model.waits(instruction.kind)
+impl<'a, M: MemoryModel> PreservedOrder<'a, M> {
+    #[tactic(auto, using(crate::proofs::Preserving::preserved_laws))]
+    pub fn new(trace: &'a Trace, model: &'a M) -> PreservedOrder<'a, M>
+        ensures trace { result.trace.now ≡ trace.now }
+        ensures model { result.model.now ≡ model.now }
+    {
+        PreservedOrder { trace, model }
+    }
+
+    // Whether there is an entry i, and it waits.
+    #[tactic(auto, unfolding(crate::specs::PreservedOrder::preserved))]
+    pub fn waits(&self, i: usize) -> bool
+        ensures { result ≡ waiting (traced_by self.now) (kept_by self.now) i }
+    {
+        self.trace
+            .instruction(i)
+            .is_some_and(|instruction| self.model.waits(instruction.kind))
+    }
+
+    // Whether entry i is an earlier one of entry j's thread and keeps ahead of it.
+    #[tactic(auto, unfolding(crate::specs::PreservedOrder::preserved))]
+    pub fn keeps_ahead(&self, i: usize, j: usize) -> bool
+        ensures { result ≡ keeps (traced_by self.now) (kept_by self.now) i j }
+    {
+        earlier_pair(self.trace, i, j).is_some_and(|(earlier, later)| {
+            self.model
+                .keeps_ahead(Access::from(earlier), Access::from(later))
+        })
+    }
 }
 
-// Whether entry i is an earlier one of entry j's thread and keeps ahead of it.
-pub fn keeps_ahead<M: Model>(trace: &Trace, model: &M, i: usize, j: usize) -> bool
-    ensures keeps { result ≡ keeps (instructions_of trace.now) (order_of M.Model model.now trace.now) i j }
-    ensures laws { Laws (instructions_of trace.now) (order_of M.Model model.now trace.now) }
+// The instructions of entries i and j, where i is an earlier one of j's thread.
+pub(crate) fn earlier_pair(trace: &Trace, i: usize, j: usize) -> Option<(Instruction, Instruction)>
+    ensures { result ≡ (if is_earlier (instructions_of trace.now) i j then Some (instruction_at (instructions_of trace.now) i, instruction_at (instructions_of trace.now) j) else None) }
 {
-    let Some(earlier) = trace.instruction(i) else {
-        return false;
-    };
-    let Some(later) = trace.instruction(j) else {
-        return false;
-    };
-    if i >= j || earlier.thread != later.thread {
-        return false;
-    }
-    model.keeps_ahead(Access::of(earlier), Access::of(later))
+    let earlier = trace.instruction(i)?;
+    let later = trace.instruction(j)?;
+    (i < j && earlier.thread == later.thread).then_some((earlier, later))
 }

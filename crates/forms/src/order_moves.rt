@@ -13,16 +13,14 @@ use crate::form::Form;
 use crate::memory::Memory;
 use crate::order_form::OrderForm;
 use crate::ordered::OrderedTrace;
-use models::Model;
+use models::MemoryModel;
 use traces::Trace;
 
-// One code for each entry that a trace can have.
-const ORDER_CODES: u32 = 64;
+impl<M: MemoryModel> Form for OrderForm<M> {
+    // one code for each entry that a trace can have
+    const CODES: u32 = 64;
 
-impl<M: Model> Form for OrderForm<M> {
-    const CODES: u32 = ORDER_CODES;
-
-    ghost limit = { 64 };
+    ghost CODES = { 64 };
 
     ghost instructions = { traced };
 
@@ -56,28 +54,21 @@ impl<M: Model> Form for OrderForm<M> {
 
     ghost complete = { order_complete };
 
-    fn limit() -> u32 {
-        ORDER_CODES
-    }
-
+    #[tactic(auto, using(crate::proofs::OrderSteps::moving))]
     fn advance(&mut self, code: u16) -> Option<u64> {
-        let e = code as usize;
-        let Some(entry) = self.ordered.trace.entry(e) else {
-            return None;
-        };
-        if self.placed.contains(e) {
-            return None;
-        }
+        let e = usize::from(code);
+        let entry = self.ordered.trace.entry(e)?;
         let pending = self.placed.complement();
-        if !self.ordered.may_carry_out(e, entry, pending, &self.memory) {
+        if self.placed.contains(e) || !self.ordered.may_carry_out(e, entry, pending, &self.memory) {
             return None;
         }
         self.placed = self.placed.with(e);
         Some(self.memory.carry_out(entry))
     }
 
+    #[tactic(auto, using(crate::proofs::OrderSteps::moving))]
     fn retreat(&mut self, code: u16, told: u64) {
-        let e = code as usize;
+        let e = usize::from(code);
         if let Some(entry) = self.ordered.trace.entry(e) {
             self.placed = self.placed.without(e);
             self.memory.take_back(entry, told);
@@ -89,15 +80,15 @@ impl<M: Model> Form for OrderForm<M> {
     }
 }
 
-impl<M: Model> OrderForm<M> {
+impl<M: MemoryModel> OrderForm<M> {
     // The form of a trace under a model, with nothing placed. It uses the trace up.
     // From here all entries can be placed exactly if the model allows the trace.
     pub fn open(trace: Trace, model: M) -> OrderForm<M>
         ensures opening { order_start result ≡ result }
         ensures trace { result.ordered.trace ≡ trace }
         ensures model { result.model ≡ model }
-        ensures order { kept_in result ≡ clipped (instructions_of trace) (order_of M.Model model trace) }
-        ensures allowed { CanFinish result ↔ Allows (tables_of M.Model model) (instructions_of trace) }
+        ensures order { kept_in result ≡ clipped (instructions_of trace) (order_of M.MemoryModel model trace) }
+        ensures allowed { CanFinish result ↔ Allows (tables_of M.MemoryModel model) (instructions_of trace) }
     {
         let ordered = OrderedTrace::new(trace, &model);
         OrderForm {

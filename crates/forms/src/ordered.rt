@@ -2,6 +2,7 @@
 ghost use Rattle.forms.specs.OrderTables.{AllInSet, CoherentInTable, OnlyEarlier, PromptInTable, WritersInTable};
 ghost use Rattle.forms.specs.Traced.{instructions_of};
 
+use crate::entry_links::EntryLinks;
 use crate::entry_set::EntrySet;
 use traces::Trace;
 
@@ -14,13 +15,11 @@ pub struct OrderedTrace {
     pub(crate) all: EntrySet,
     // the entries that wait
     pub(crate) waiting: EntrySet,
-    // for each entry, those that keep ahead of it
-    pub(crate) ahead: [EntrySet; 64],
-    // for each entry, the earlier ones of its thread that write its address
-    pub(crate) writers: [EntrySet; 64],
+    // the links of each entry, in a fixed place as no opening allocates
+    pub(crate) links: [EntryLinks; 64],
     ghost whole: { AllInSet (instructions_of trace) all },
-    ghost earlier: { OnlyEarlier (instructions_of trace) ahead },
-    ghost prompt: { PromptInTable (instructions_of trace) waiting ahead },
-    ghost coherent: { CoherentInTable (instructions_of trace) ahead },
-    ghost forwarding: { WritersInTable (instructions_of trace) writers },
+    ghost earlier: { OnlyEarlier (instructions_of trace) links },
+    ghost prompt: { PromptInTable (instructions_of trace) waiting links },
+    ghost coherent: { CoherentInTable (instructions_of trace) links },
+    ghost forwarding: { WritersInTable (instructions_of trace) links },
 }

@@ -1,32 +1,35 @@
 // The preserved order of a trace, found once.
-ghost use Rattle.std.specs.Prelude.{◌≡◌, ℕ, ◌<◌, length, nat_lt};
+ghost use Rattle.std.specs.Prelude.{◌≡◌, ℕ, ◌<◌, length};
 ghost use Rattle.forms.specs.EntrySets.{member};
 ghost use Rattle.forms.specs.KeptPairs.{clipped, keeps, waiting};
-ghost use Rattle.forms.specs.OrderTables.{is_writer_before, set_at, tabled};
+ghost use Rattle.forms.specs.OrderTables.{Linked, is_writer_before, links_at, tabled};
 ghost use Rattle.forms.specs.Traced.{instructions_of, order_of};
+ghost use Rattle.forms.specs.UnderModel.{kept_by, traced_by};
 
+use crate::entry_links::EntryLinks;
 use crate::entry_set::EntrySet;
-use crate::order::{keeps_ahead, waits};
+use crate::order::earlier_pair;
 use crate::ordered::OrderedTrace;
-use models::Model;
+use crate::preserved_order::PreservedOrder;
+use models::MemoryModel;
+use std::array;
 use traces::Trace;
 
 impl OrderedTrace {
     // A trace with its preserved order under a model.
-    pub(crate) fn new<M: Model>(trace: Trace, model: &M) -> OrderedTrace
+    pub(crate) fn new<M: MemoryModel>(trace: Trace, model: &M) -> OrderedTrace
         ensures trace { result.trace ≡ trace }
-        ensures order { tabled result.waiting result.ahead ≡ clipped (instructions_of trace) (order_of M.Model model.now trace) }
+        ensures order { tabled result.waiting result.links ≡ clipped (instructions_of trace) (order_of M.MemoryModel model.now trace) }
     {
-        let all = all_entries(&trace);
-        let waiting = waiting_entries(&trace, model);
-        let ahead = ahead_table(&trace, model);
-        let writers = writer_table(&trace);
+        let all = EntrySet::where_passes(trace.len(), |_| true);
+        let order = PreservedOrder::new(&trace, model);
+        let waiting = EntrySet::where_passes(trace.len(), |i| order.waits(i));
+        let links = entry_links(&order);
         OrderedTrace {
             trace,
             all,
             waiting,
-            ahead,
-            writers,
+            links,
         }
     }
 }
@@ -35,80 +38,25 @@ impl OrderedTrace {
 fn writes_before(trace: &Trace, e: usize, i: usize) -> bool
     ensures { result ≡ is_writer_before (instructions_of trace.now) e i }
 {
-    let Some(earlier) = trace.instruction(i) else {
-        return false;
-    };
-    let Some(later) = trace.instruction(e) else {
-        return false;
-    };
-    if i >= e || earlier.thread != later.thread {
-        return false;
-    }
-    earlier.kind.writes() && earlier.address == later.address
+    earlier_pair(trace, i, e).is_some_and(|(earlier, later)| {
+        earlier.kind.writes() && earlier.address == later.address
+    })
 }
 
-// All entries.
-fn all_entries(trace: &Trace) -> EntrySet
-    ensures { (i : ℕ) → member result i ≡ nat_lt i (length (instructions_of trace.now)) }
+// The links of each entry.
+fn entry_links<M: MemoryModel>(order: &PreservedOrder<M>) -> [EntryLinks; 64]
+    ensures ahead { (i j : ℕ) → member (links_at result j).ahead i ≡ keeps (traced_by order.now) (kept_by order.now) i j }
+    ensures writers { (e i : ℕ) → e < length (traced_by order.now) → member (links_at result e).writers i ≡ is_writer_before (traced_by order.now) e i }
 {
-    let mut set = EntrySet::empty();
-    for i in 0..trace.len() {
-        set = set.with(i);
-    }
-    set
+    array::from_fn(|e| links_of(order, e))
 }
 
-// The entries that wait.
-fn waiting_entries<M: Model>(trace: &Trace, model: &M) -> EntrySet
-    ensures { (i : ℕ) → member result i ≡ waiting (instructions_of trace.now) (order_of M.Model model.now trace.now) i }
+// The links of entry e.
+fn links_of<M: MemoryModel>(order: &PreservedOrder<M>, e: usize) -> EntryLinks
+    ensures { Linked (traced_by order.now) (kept_by order.now) e result }
 {
-    let mut set = EntrySet::empty();
-    for i in 0..64 {
-        set = set.with_if(i, waits(trace, model, i));
+    EntryLinks {
+        ahead: EntrySet::where_passes(e, |i| order.keeps_ahead(i, e)),
+        writers: EntrySet::where_passes(e, |i| writes_before(order.trace, e, i)),
     }
-    set
-}
-
-// The entries that keep ahead of entry j.
-fn entries_ahead<M: Model>(trace: &Trace, model: &M, j: usize) -> EntrySet
-    ensures { (i : ℕ) → member result i ≡ keeps (instructions_of trace.now) (order_of M.Model model.now trace.now) i j }
-{
-    let mut set = EntrySet::empty();
-    for i in 0..j {
-        set = set.with_if(i, keeps_ahead(trace, model, i, j));
-    }
-    set
-}
-
-// The earlier entries of entry e's thread that write its address.
-fn writers_before(trace: &Trace, e: usize) -> EntrySet
-    ensures { (i : ℕ) → member result i ≡ is_writer_before (instructions_of trace.now) e i }
-{
-    let mut set = EntrySet::empty();
-    for i in 0..e {
-        set = set.with_if(i, writes_before(trace, e, i));
-    }
-    set
-}
-
-// For each entry, those that keep ahead of it.
-fn ahead_table<M: Model>(trace: &Trace, model: &M) -> [EntrySet; 64]
-    ensures { (i j : ℕ) → member (set_at result j) i ≡ keeps (instructions_of trace.now) (order_of M.Model model.now trace.now) i j }
-{
-    let mut table = [EntrySet::empty(); 64];
-    for j in 0..64 {
-        table[j] = entries_ahead(trace, model, j);
-    }
-    table
-}
-
-// For each entry, the earlier ones of its thread that write its address.
-fn writer_table(trace: &Trace) -> [EntrySet; 64]
-    ensures { (e i : ℕ) → e < length (instructions_of trace.now) → member (set_at result e) i ≡ is_writer_before (instructions_of trace.now) e i }
-{
-    let mut table = [EntrySet::empty(); 64];
-    for e in 0..64 {
-        table[e] = writers_before(trace, e);
-    }
-    table
 }

@@ -1,5 +1,5 @@
 // What sets of entries do.
-ghost use Rattle.std.specs.Prelude.{◌≡◌, ℕ, ◌<◌, ◌≤◌, true, false, not, if◌then◌else◌, ◌≢◌};
+ghost use Rattle.std.specs.Prelude.{◌≡◌, ℕ, ◌^◌, ◌<◌, ◌≤◌, true, false, cond, not, ◌≢◌, nat_lt};
 ghost use Rattle.forms.specs.EntrySets.{LatestCommon, empty_set, inserted, member, removed};
 
 use crate::entry_set::EntrySet;
@@ -13,45 +13,52 @@ impl EntrySet {
         EntrySet { bits: 0 }
     }
 
+    // The numbers below `count` that pass a test, of those below 64.
+    pub(crate) fn where_passes<F: Fn(usize) -> bool>(count: usize, test: F) -> EntrySet
+        requires { (i : ℕ) → i < count → F.pre test i }
+        ensures within { (i : ℕ) → i < count → i < 64 → F.post test i (member result i) }
+        ensures beyond { (i : ℕ) → count ≤ i → member result i ≡ false }
+        ensures high { (i : ℕ) → 64 ≤ i → member result i ≡ false }
+    {
+        let mut set = EntrySet::empty();
+        for i in 0..count {
+            if test(i) {
+                set = set.with(i);
+            }
+        }
+        set
+    }
+
     // Whether i is a member.
+    #[tactic(auto, using(crate::proofs::Members::contains_by_bit))]
     pub(crate) fn contains(self, i: usize) -> bool
         ensures { result ≡ member self i }
     {
-        i < 64 && (self.bits >> i) & 1 == 1
+        self.bits & bit(i) != 0
     }
 
     // The set with i; as it is where i is 64 or more.
+    #[tactic(auto, using(crate::proofs::Members::with_by_bit))]
     pub(crate) fn with(self, i: usize) -> EntrySet
         ensures { result ≡ inserted self i }
     {
-        if i >= 64 {
-            return self;
-        }
         EntrySet {
-            bits: self.bits | (1 << i),
+            bits: self.bits | bit(i),
         }
-    }
-
-    // The set with i where the test has passed, and else as it is.
-    pub(crate) fn with_if(self, i: usize, passed: bool) -> EntrySet
-        ensures { result ≡ (if passed then inserted self i else self) }
-    {
-        if passed { self.with(i) } else { self }
     }
 
     // The set without i.
+    #[tactic(auto, using(crate::proofs::Members::without_by_bit))]
     pub(crate) fn without(self, i: usize) -> EntrySet
         ensures { result ≡ removed self i }
     {
-        if i >= 64 {
-            return self;
-        }
         EntrySet {
-            bits: self.bits & !(1 << i),
+            bits: self.bits & !bit(i),
         }
     }
 
     // The numbers below 64 that are no members.
+    #[tactic(auto, using(crate::proofs::Members::member_opposite, crate::proofs::Members::opposite_beyond))]
     pub(crate) fn complement(self) -> EntrySet
         ensures below { (i : ℕ) → i < 64 → member result i ≡ not (member self i) }
         ensures beyond { (i : ℕ) → 64 ≤ i → member result i ≡ false }
@@ -60,6 +67,7 @@ impl EntrySet {
     }
 
     // Whether two sets have a member in common.
+    #[tactic(auto, using(crate::proofs::Members::some_common, crate::proofs::Members::none_common))]
     pub(crate) fn meets(self, other: EntrySet) -> bool
         ensures common { result ≡ true → (i : ℕ) × (i < 64) × (member self i ≡ true) × (member other i ≡ true) }
         ensures apart { result ≡ false → (i : ℕ) → member self i ≡ true → member other i ≢ true }
@@ -68,13 +76,19 @@ impl EntrySet {
     }
 
     // The greatest member that two sets have in common.
+    #[tactic(auto, using(crate::proofs::Members::latest_common))]
     pub(crate) fn latest_common(self, other: EntrySet) -> Option<usize>
         ensures { LatestCommon self other result }
     {
-        let common = self.bits & other.bits;
-        if common == 0 {
-            return None;
-        }
-        Some(63 - common.leading_zeros() as usize)
+        (self.bits & other.bits)
+            .checked_ilog2()
+            .map(|top| top as usize)
     }
+}
+
+// The bit of i; none where i is 64 or more.
+fn bit(i: usize) -> u64
+    ensures { result ≡ cond (nat_lt i 64) (2 ^ i) 0 }
+{
+    if i < 64 { 1 << i } else { 0 }
 }

@@ -2,7 +2,7 @@
 use Rattle.std.specs.Prelude.{◌≡◌, ℕ, zero, suc, ◌<◌, ◌≤◌, Bool, true, false, cond, ◌≢◌, ◌⊎◌, List, [], ◌∷◌, Some, None, Decides, ◌==◌, nat_eq, refl}
 use Rattle.std.proofs.Common.{sym, ◌∙◌, inl, inr, arith}
 use Rattle.std.proofs.lemmas.List.Sums.{sum_by-cons}
-use Rattle.std.proofs.lemmas.Bool.{both_ways, cases_Bool, cases_eq, cond-false, cond-true, eq-eqb, ne_eqb}
+use Rattle.std.proofs.lemmas.Bool.{both_ways, cases_Bool, cases_eq, cond-false, cond-true, eq-eqb, false_from_ne_true, ne_eqb}
 use Rattle.std.proofs.lemmas.Bool.Decides.{Decides-below_or, not_from_Decides}
 use Rattle.traces.specs.declared.entry.Address.{Address}
 use Rattle.traces.specs.declared.entry.Instruction.{Instruction}
@@ -48,11 +48,6 @@ slot_absent (x ∷ o) e i absent =
           ]
     ]
 
--- a test that cannot pass fails
-pub never : (b : Bool) → (b ≢ true) → b ≡ false
-never true h = absurd (h refl)
-never false h = refl
-
 -- the search below k decides whether some number passes
 pub some_below_decides : (f : ℕ → Bool) (k : ℕ) → Decides (some_below f k) ((i : ℕ) × (i < k) × (f i ≡ true))
 some_below_decides f k = Decides-below_or f (λ i. f i ≡ true) (some_below f) (λ i. (λ h. h, λ h. h)) refl (λ _. refl) k
@@ -60,16 +55,16 @@ some_below_decides f k = Decides-below_or f (λ i. f i ≡ true) (some_below f) 
 -- where no test below k passes, each one fails
 pub some_below_fails : (f : ℕ → Bool) (k : ℕ) → some_below f k ≡ false → (i : ℕ) → i < k → f i ≡ false
 some_below_fails f k none i below =
-    never (f i) (λ passes. not_from_Decides (some_below f k) (some_below_decides f k) none (i, below, passes))
+    false_from_ne_true (f i) (λ passes. not_from_Decides (some_below f k) (some_below_decides f k) none (i, below, passes))
 
 -- where no number below k can pass, the search fails
 pub some_below_none : (f : ℕ → Bool) (k : ℕ) → ((i : ℕ) → i < k → f i ≢ true) → some_below f k ≡ false
 some_below_none f k none =
-    never (some_below f k) (λ some. let found = (some_below_decides f k).0 some in none found.0 found.1 found.2)
+    false_from_ne_true (some_below f k) (λ some. let found = (some_below_decides f k).0 some in none found.0 found.1 found.2)
 
 -- what is found is below k, passes, and is the largest such number
 pub last_below_some : (f : ℕ → Bool) (k w : ℕ) → last_below f k ≡ Some w → (w < k) × (f w ≡ true) × ((v : ℕ) → v < k → f v ≡ true → v ≤ w)
-last_below_some f zero w found = absurd (let z : ◌≡◌ {A = ℕ} 0 1 = cc in omega arith)
+last_below_some f zero w found = absurd cc
 last_below_some f (suc k) w found =
     elim (cases_Bool (f k)) [
       | inl passes ↦
@@ -93,7 +88,7 @@ last_below_none f (suc k) none v below passes =
     elim (cases_Bool (f k)) [
       | inl here ↦
           let found : Some k ≡ None = sym (cond-true (f k) (Some k) (last_below f k) here) ∙ none in
-          let z : ◌≡◌ {A = ℕ} 0 1 = cc in omega arith
+          cc
       | inr fails ↦ elim (cases_eq v k) [
         | inl same ↦ both_ways (f k) fails (rw same at passes)
         | inr other ↦ last_below_none f k (sym (cond-false (f k) (Some k) (last_below f k) fails) ∙ none) v (omega arith) passes

@@ -1,5 +1,5 @@
 -- Entries of a trace by their slots: the slot of an entry's address is small.
-use Rattle.std.specs.Prelude.{◌≡◌, ℕ, ◌<◌, true, List, length, get_or, vec_items, slice_index_or}
+use Rattle.std.specs.Prelude.{◌≡◌, ℕ, ◌<◌, true, List, length, get_or, slice_index_or}
 use Rattle.std.proofs.Common.{◌∙◌, ap, subst, arith}
 use Rattle.std.proofs.lemmas.List.{get_or-map}
 use Rattle.std.proofs.lemmas.Bool.{cond-true}
@@ -10,13 +10,13 @@ use Rattle.traces.specs.Adding.{addresses_of, threads_of}
 use Rattle.traces.specs.Instructions.{instructions}
 use Rattle.traces.specs.Kinds.{address, addressed, instruction}
 use Rattle.traces.specs.Stated.{entry_of}
-use Rattle.traces.proofs.Holding.{entries_are, few_addresses, held, length_held}
+use Rattle.traces.proofs.Holding.{entries_are, few_addresses, held, length_held, entries_in}
 use Rattle.forms.specs.Entries.{addressed_at, instruction_at}
 use Rattle.forms.specs.Memories.{address_slot, held_entry}
 
 module _ (x : Contents) (e : ℕ) (below : e < length (instructions x)) where
   abbrev es : List Entry
-  es = vec_items x.entries
+  es = entries_in x
 
   -- the entry at the place e
   pub here : get_or es e (held_entry (instructions x) e) ≡ held_entry (instructions x) e

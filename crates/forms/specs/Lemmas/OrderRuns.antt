@@ -1,8 +1,7 @@
 -- The order form makes the runs of the order machine.
-use Rattle.std.specs.Prelude.{◌≡◌, ℕ, suc, ◌/◌, ◌%◌, ◌^◌, ◌<◌, ◌≤◌, Bool, true, false, not, ◌||◌, List, length, Some, Option, ◌==◌, refl}
+use Rattle.std.specs.Prelude.{◌≡◌, ℕ, suc, ◌<◌, ◌≤◌, Bool, true, false, not, ◌||◌, List, length, Some, Option, ◌==◌, refl}
 use Rattle.std.proofs.Common.{sym, ◌∙◌, subst, inl, inr, arith}
 use Rattle.std.proofs.Math.Path.{ap, fun_ext}
-use Rattle.std.proofs.Math.Nat.{zero-div}
 use Rattle.std.specs.List.{range_with_len}
 use Rattle.std.proofs.lemmas.List.FromFn.{length-range_with_len}
 use Rattle.std.proofs.lemmas.List.Sums.{count_by-le-length}
@@ -11,7 +10,7 @@ use Rattle.traces.specs.declared.entry.Address.{Address}
 use Rattle.traces.proofs.Holding.{few_entries}
 use Rattle.forms.specs.declared.entry_set.EntrySet.{EntrySet}
 use Rattle.forms.specs.declared.order_form.OrderForm.{OrderForm}
-use Rattle.forms.specs.EntrySets.{empty_set, inserted, member}
+use Rattle.forms.specs.EntrySets.{inserted, member}
 use Rattle.forms.specs.Lawful.{Lawful}
 use Rattle.forms.specs.Memories.{blank, held_entry, word_at}
 use Rattle.forms.specs.OrderForms.{after_placing, kept_in, order_carries, order_done, order_left, order_start, order_step, shown, traced}
@@ -19,15 +18,11 @@ use Rattle.forms.specs.OrderMachine.{OrderPosition, all_placed, order_opening, p
 use Rattle.forms.specs.PreservedOrder.{Laws}
 use Rattle.forms.specs.Runs.{Reaches, carried_out, run}
 use Rattle.forms.specs.Lemmas.Counting.{count_one_less}
-use Rattle.forms.specs.Lemmas.Members.{member_inserted_other, member_inserted_same}
+use Rattle.forms.specs.Lemmas.Members.{member_inserted_other, member_inserted_same, member_none}
 use Rattle.forms.specs.Lemmas.Placing.{carried_places, lawful_order, order_lawful, place_ready}
 use Rattle.forms.specs.Lemmas.Remembering.{blank_at, with_word_length, word_stored}
 use Rattle.forms.specs.Lemmas.Simulation.{carried_alike, ruled_some, run_back, run_forth, run_keeps}
 use Rattle.forms.specs.Lemmas.Tabled.{tabled_laws}
-
--- the empty set has no member
-member_none : (i : ℕ) → member empty_set i ≡ false
-member_none i = ne_eqb (0 / 2 ^ i % 2) 1 (λ one. omega (arith, one, zero-div (2 ^ i)))
 
 -- a set with one number more, by membership
 member_more : (s : EntrySet) (e : ℕ) → e < 64 → (i : ℕ) → member (inserted s e) i ≡ (i == e || member s i)
@@ -82,7 +77,7 @@ module _ {X : Type 0} where
 
   -- the preserved order of a form has the two laws
   laws : (f : OrderForm X) → Laws (traced f) (kept_in f)
-  laws f = tabled_laws (traced f) f.ordered.waiting f.ordered.ahead f.ordered.prompt f.ordered.coherent
+  laws f = tabled_laws (traced f) f.ordered.waiting f.ordered.links f.ordered.prompt f.ordered.coherent
 
   -- codes that lead from the opening to a form show a run of the machine
   shown_run : (f q : OrderForm X) (cs : List ℕ) → run order_step (order_start f) cs ≡ Some q → run (rules f) order_opening cs ≡ Some (shown q)

@@ -1,6 +1,6 @@
 -- The machine that places the entries of a trace one by one: the lists that it takes from its opening to the end are the lawful orders.
 use Rattle.std.specs.Prelude.{◌≡◌, ℕ, ◌<◌, true, ◌&&◌, ◌||◌, List, [], ◌∷◌, length, Some, None, Option, ◌==◌, nat_lt, refl}
-use Rattle.std.proofs.Common.{sym, ◌∙◌, ap, subst, inl, inr, arith}
+use Rattle.std.proofs.Common.{sym, ◌∙◌, ap, subst, inl, inr}
 use Rattle.std.proofs.lemmas.Bool.{and_from, and_parts, both_ways, cases_Bool, cond-false, cond-true, eq-eqb, lt-ltb, ltb-true, ne_eqb, not-false, not_from_false, not_from_true, not-true, or_left}
 use Rattle.traces.specs.declared.entry.Instruction.{Instruction}
 use Rattle.forms.specs.Carrying.{contents, may_carry_out}
@@ -31,7 +31,7 @@ place_ready is p q after e h = elim (cases_Bool (nat_lt e (length is) && (unplac
       )
   | inr fails ↦
       let none : None ≡ Some after = sym (cond-false _ _ _ fails) ∙ h in
-      absurd (let z : ◌≡◌ {A = ℕ} 0 1 = cc in omega arith)
+      absurd cc
 ]
 
 -- an entry that is ready is placed
@@ -78,7 +78,7 @@ module _ (is : List Instruction) (p : Preserved) (laws : Laws is p) where
       go : (next : Option OrderPosition) → place is p s e ≡ next → onward next (λ after. run (place is p) after o) ≡ Some q
           → ((after : OrderPosition) → run (place is p) after o ≡ Some q → From is p after.placed (contents is after.memory) o)
           → From is p s.placed (contents is s.memory) (e ∷ o)
-      go None a b rest = absurd (let z : ◌≡◌ {A = ℕ} 0 1 = cc in omega arith)
+      go None a b rest = absurd cc
       go (Some after) a b rest =
           let step = place_ready is p s after e a in
           let onwards : run (place is p) (placing is s e) o ≡ Some q = subst (λ (x : OrderPosition). run (place is p) x o ≡ Some q) step.1 b in
@@ -118,5 +118,5 @@ carried_places is p s (e ∷ o) q h = ap (λ (x : List ℕ). e ∷ x) (go (place
     go : (next : Option OrderPosition) → onward next (λ after. run (place is p) after o) ≡ Some q
         → ((after : OrderPosition) → run (place is p) after o ≡ Some q → carried_out (place is p) places after o ≡ o)
         → listed_from next (λ after. carried_out (place is p) places after o) ≡ o
-    go None h' rest = absurd (let z : ◌≡◌ {A = ℕ} 0 1 = cc in omega arith)
+    go None h' rest = absurd cc
     go (Some after) h' rest = rest after h'

@@ -1,15 +1,11 @@
 -- A machine whose steps are ruled by another: runs of the one are runs of the other.
 use Rattle.std.specs.Prelude.{◌≡◌, ℕ, List, [], ◌∷◌, ◌++◌, Some, None, Option, refl}
-use Rattle.std.proofs.Common.{sym, ◌∙◌, ap, subst, arith}
+use Rattle.std.proofs.Common.{sym, ◌∙◌, ap, subst}
 use Rattle.forms.specs.Runs.{carried_out, listed_from, onward, ruled, run}
-
--- an answer is not both none and some
-pub none_some : {A : Type 0} {P : Type 0} (a : A) → None ≡ Some a → P
-none_some a h = absurd (let z : ◌≡◌ {A = ℕ} 0 1 = cc in omega arith)
 
 -- a ruled step that leads somewhere leads where it should, and the rules allow it
 pub ruled_some : {S T : Type 0} (answer : Option T) (u w : S) → ruled answer u ≡ Some w → (v : T) × (answer ≡ Some v) × (w ≡ u)
-ruled_some None u w h = none_some w h
+ruled_some None u w h = absurd cc
 ruled_some (Some v) u w h = (v, refl, cc)
 
 module _ {S T : Type 0} (rules : S → T → ℕ → Option T) (shown : S → T) (after : S → ℕ → S) where
@@ -24,7 +20,7 @@ module _ {S T : Type 0} (rules : S → T → ℕ → Option T) (shown : S → T)
     where
       go : (r : Option S) → step s c ≡ r → onward r (λ w. run step w cs) ≡ Some u
           → ((w : S) → run step w cs ≡ Some u → view u ≡ view w) → view u ≡ view s
-      go None a b rest = none_some u b
+      go None a b rest = absurd cc
       go (Some w) a b rest =
           let e = ruled_some (rules s (shown s) c) (after s c) w a in
           rest w b ∙ ap view e.2 ∙ stable s c
@@ -39,7 +35,7 @@ module _ {S T : Type 0} (rules : S → T → ℕ → Option T) (shown : S → T)
         go : (r : Option T) → rules s (shown s) c ≡ r → onward (ruled r (after s c)) (λ w. run step w cs) ≡ Some u
             → (Good (after s c) → run step (after s c) cs ≡ Some u → run (rules (after s c)) (shown (after s c)) cs ≡ Some (shown u))
             → onward r (λ v. run (rules s) v cs) ≡ Some (shown u)
-        go None a b rest = none_some u b
+        go None a b rest = absurd cc
         go (Some v) a b rest =
             let m = shows s c v good a in
             let k = rest m.1 b in
@@ -54,7 +50,7 @@ module _ {S T : Type 0} (rules : S → T → ℕ → Option T) (shown : S → T)
         go : (r : Option T) → rules s (shown s) c ≡ r → onward r (λ w. run (rules s) w cs) ≡ Some v
             → (Good (after s c) → run (rules (after s c)) (shown (after s c)) cs ≡ Some v → (u : S) × (run step (after s c) cs ≡ Some u) × (shown u ≡ v))
             → (u : S) × (onward (ruled r (after s c)) (λ w. run step w cs) ≡ Some u) × (shown u ≡ v)
-        go None a b rest = none_some v b
+        go None a b rest = absurd cc
         go (Some w) a b rest =
             let m = shows s c w good a in
             let b₂ : run (rules s) (shown (after s c)) cs ≡ Some v = subst (λ x. run (rules s) x cs ≡ Some v) (sym m.0) b in
