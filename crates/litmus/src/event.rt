@@ -13,7 +13,7 @@ pub enum Event {
     Sync(u64),
 }
 
-// A trace, and what the test says of each model: whether it allows the trace.
+// A trace, and what the test says of each model: whether it allows the trace. One verdict a model, as a table of the field has it.
 #[derive(Clone, Copy)]
 pub struct LitmusTest {
     pub name: &'static str,

@@ -6,12 +6,12 @@ use crate::event::{Event, LitmusTest};
 use models::ModelName;
 use traces::{Address, Instruction, Kind};
 
-impl Event {
-    // The instruction that an event is.
-    pub fn instruction(self) -> Instruction
-        ensures { result ≡ instruction_of self }
-    {
-        match self {
+// The instruction that an event is.
+impl From<Event> for Instruction {
+    ghost from_gives = { λ event instruction. instruction ≡ instruction_of event };
+
+    fn from(event: Event) -> Instruction {
+        match event {
             Event::Load(thread, number, read) => {
                 Instruction::new(thread, Kind::Load, Address { number }, read, 0)
             }

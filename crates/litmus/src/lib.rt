@@ -12,19 +12,17 @@ mod tests {
     use crate::event::LitmusTest;
     use crate::table::litmus_tests;
     use forms::{Form, OrderForm};
-    use models::{Model, ModelName, Pso, Rmo, Sc, Tso};
+    use models::{MemoryModel, ModelName, Pso, Rmo, Sc, Tso};
     use std::test::*;
-    use traces::{Draft, Trace};
+    use traces::{Draft, Instruction, Trace};
 
     // The trace of a litmus test.
     fn trace_of(rt: HostRuntime, test: &LitmusTest) -> Result<Trace, Fail> {
         let mut draft = Draft::new(rt.alloc())?;
         for event in test.events {
-            let i = event.instruction();
-            let added = draft.add(i.thread, i.kind.number(), i.address, i.read, i.written);
-            if added.is_err() {
-                return Err(Fail::new("an entry is refused"));
-            }
+            draft
+                .push(Instruction::from(*event))
+                .map_err(|_| "an entry is refused")?;
         }
         Ok(draft.seal())
     }
@@ -37,7 +35,7 @@ mod tests {
         if left == 0 {
             return false;
         }
-        for code in 0..64 {
+        for code in (0..=u16::MAX).take(F::CODES as usize) {
             if let Some(note) = form.advance(code) {
                 if can_finish(form, left - 1) {
                     return true;
@@ -48,7 +46,11 @@ mod tests {
         false
     }
 
-    fn allows<M: Model + Drop>(rt: HostRuntime, test: &LitmusTest, model: M) -> Result<bool, Fail> {
+    fn allows<M: MemoryModel + Drop>(
+        rt: HostRuntime,
+        test: &LitmusTest,
+        model: M,
+    ) -> Result<bool, Fail> {
         let trace = trace_of(rt, test)?;
         let entries = trace.len();
         let mut form = OrderForm::open(trace, model);
@@ -58,10 +60,10 @@ mod tests {
     #[test]
     fn order_form_finds_the_verdicts(rt: HostRuntime) -> Result<(), Fail> {
         for test in litmus_tests() {
-            assert_eq!(rt; allows(rt, test, Sc {})?, test.is_allowed(ModelName::Sc));
-            assert_eq!(rt; allows(rt, test, Tso {})?, test.is_allowed(ModelName::Tso));
-            assert_eq!(rt; allows(rt, test, Pso {})?, test.is_allowed(ModelName::Pso));
-            assert_eq!(rt; allows(rt, test, Rmo {})?, test.is_allowed(ModelName::Rmo));
+            assert_eq!(rt; allows(rt, test, Sc)?, test.is_allowed(ModelName::Sc));
+            assert_eq!(rt; allows(rt, test, Tso)?, test.is_allowed(ModelName::Tso));
+            assert_eq!(rt; allows(rt, test, Pso)?, test.is_allowed(ModelName::Pso));
+            assert_eq!(rt; allows(rt, test, Rmo)?, test.is_allowed(ModelName::Rmo));
         }
         Ok(())
     }
