@@ -3,32 +3,14 @@
 
 use std::io::Read;
 use text::{MAX_BYTES, read};
-use traces::{Draft, Instruction, Kind, Trace};
+use traces::{Draft, Trace};
 
 // One byte more than a text may have, so that a longer one is seen to be too long.
 const MOST_BYTES: u64 = MAX_BYTES as u64 + 1;
 
-fn print_instruction(rt: &HostRuntime, at: usize, instruction: Instruction) -> anyhow::Result<()> {
-    let thread = instruction.thread;
-    let address = instruction.address.number;
-    let read = instruction.read;
-    let written = instruction.written;
-    match instruction.kind {
-        Kind::Load => println!(rt; "{at}: thread {thread} loads {read} from M[{address}]")?,
-        Kind::Store => println!(rt; "{at}: thread {thread} stores {written} to M[{address}]")?,
-        Kind::Swap => println!(rt;
-            "{at}: thread {thread} swaps {read} for {written} in M[{address}]"
-        )?,
-        Kind::Sync => println!(rt; "{at}: thread {thread} syncs")?,
-    }
-    Ok(())
-}
-
 fn print_trace(rt: &HostRuntime, trace: &Trace) -> anyhow::Result<()> {
-    for at in 0..trace.len() {
-        if let Some(instruction) = trace.instruction(at) {
-            print_instruction(rt, at, instruction)?;
-        }
+    for (at, instruction) in trace.instructions().enumerate() {
+        println!(rt; "{at}: {instruction}")?;
     }
     let entries = trace.len();
     let threads = trace.thread_count();
