@@ -10,6 +10,7 @@ use models::{Access, MemoryModel};
 use traces::{Instruction, Trace};
 
 impl<'a, M: MemoryModel> PreservedOrder<'a, M> {
+    // The preserved order of this trace under this model.
     #[tactic(auto, using(crate::proofs::Preserving::preserved_laws))]
     pub fn new(trace: &'a Trace, model: &'a M) -> PreservedOrder<'a, M>
         ensures trace { result.trace.now ≡ trace.now }

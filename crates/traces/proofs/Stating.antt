@@ -1,9 +1,14 @@
 -- The instructions that entries stand for, as entries come and go.
 use Rattle.std.proofs.Common.{◌≡◌, ℕ, zero, suc, ◌+◌, ◌<◌, max, Bool, true, false, cond, eqb, ◌⊎◌, fold, List, [], ◌∷◌, ◌++◌, map, length, get_or, take, Some, None, Option, sym, refl, ap, ◌∙◌, subst, ⊎_elim, arith, Bor}
 use Rattle.std.specs.List.{slice_get}
-use Rattle.std.specs.Option.{option_map}
+use Rattle.std.specs.Iterator.{PicksByCmp}
+use Rattle.std.specs.Option.{option_map, unwrap_or}
+use Rattle.std.specs.Ordering.{max_by_ordering, nat_cmp}
 use Rattle.std.specs.Slice.{IsGetResult}
 use Rattle.std.proofs.lemmas.List.{length_push, get_or_push, get_or_append_left}
+use Rattle.std.proofs.lemmas.Iterator.{YieldsList}
+use Rattle.std.proofs.lemmas.Iterator.Consumers.{reduce_from_yields_List}
+use Rattle.std.proofs.lemmas.List.Folds.{max_of_map}
 use Rattle.std.proofs.lemmas.Option.{slice_get-get_or, slice_get_past}
 use Rattle.std.proofs.lemmas.Bool.{cases_lt, eq-eqb, eqb-true}
 use Rattle.traces.specs.declared.entry.Address.{Address}
@@ -80,9 +85,10 @@ most_from : (of : Entry → ℕ) (n : ℕ) (es : List Entry) → fold (λ most e
 most_from of n [] = omega arith
 most_from of n (e ∷ es) = omega (arith, most_from of (max n (of e)) es)
 
--- the maximum of what is needed, or 0
-pub reach_fold : (of : Entry → ℕ) (es : List Entry) → fold (λ most e. max most (of e)) 0 es ≡ reach of es
-reach_fold of es = most_from of 0 es ∙ omega arith
+-- the greatest of what is needed, or 0, as an iterator over it finds it
+pub reach_picked : {S : Type 0} {steps : S → Option ℕ → S → Type 0} (of : Entry → ℕ) (es : List Entry) (s : S) (r : Option ℕ)
+    → PicksByCmp steps max_by_ordering nat_cmp s r → YieldsList steps (λ x. x) s (map of es) → unwrap_or r 0 ≡ reach of es
+reach_picked of es s r picks yields = ap (λ o. unwrap_or o 0) (reduce_from_yields_List _ s r picks yields) ∙ max_of_map of es ∙ most_from of 0 es ∙ omega arith
 
 -- how much the entries that are kept need is how much they bring
 module _ {X : Type 0} (same : X → X → Bool) (law : Sameness same) (brings : Instruction → Option X) (of : Entry → ℕ) (f : Entry → Instruction) (whole : List X) where
