@@ -26,12 +26,12 @@ unfolding removed
 removed_member s i e = cond-true _ _ _ e
 
 -- `removed` does nothing at what is no member
-removed_other : (s : EntrySet) (i : ℕ) → member s i ≡ false → removed s i ≡ s
+pub removed_other : (s : EntrySet) (i : ℕ) → member s i ≡ false → removed s i ≡ s
 unfolding removed
 removed_other s i e = cond-false _ _ _ e
 
 -- what `removed` is for a set of 64 bits, below 64
-removed_below : (s : EntrySet) (i : ℕ) → s.bits < 2 ^ 64 → i < 64 → removed s i ≡ record { bits = bit_and s.bits (2 ^ 64 - 1 - 2 ^ i) }
+pub removed_below : (s : EntrySet) (i : ℕ) → s.bits < 2 ^ 64 → i < 64 → removed s i ≡ record { bits = bit_and s.bits (2 ^ 64 - 1 - 2 ^ i) }
 removed_below s i h l =
     let parts = and_not_power 64 s.bits i h l in
     let less : member s i ≡ true → s.bits - 2 ^ i ≡ bit_and s.bits (2 ^ 64 - 1 - 2 ^ i) =
@@ -73,7 +73,7 @@ inserted_removed s i l e =
     ∙ ap (λ b. record { bits = b }) (or_less s.bits i (member_digit s i e))
 
 -- a set of 64 bits has no member from 64 on
-member_beyond : (s : EntrySet) (i : ℕ) → s.bits < 2 ^ 64 → 64 ≤ i → member s i ≡ false
+pub member_beyond : (s : EntrySet) (i : ℕ) → s.bits < 2 ^ 64 → 64 ≤ i → member s i ≡ false
 member_beyond s i h l = ne_eqb (s.bits / 2 ^ i % 2) 1 (λ e. omega (arith, e, bit_at_above s.bits 64 i h l))
 
 -- the set of the opposite digits has the other members

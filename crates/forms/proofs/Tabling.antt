@@ -24,7 +24,7 @@ use Rattle.forms.proofs.Building.{built_all}
 use Rattle.forms.proofs.Preserving.{earlier_parts, keeps_from, keeps_parts}
 
 -- an entry that waits is one of the trace
-waiting_below : (is : List Instruction) (p : Preserved) (i : ℕ) → waiting is p i ≡ true → i < length is
+pub waiting_below : (is : List Instruction) (p : Preserved) (i : ℕ) → waiting is p i ≡ true → i < length is
 waiting_below is p i h = ltb-true i (length is) (and_parts (nat_lt i (length is)) (p.waits i) h).0
 
 -- a set that tells below 64 which of the entries wait tells it of every number, as a trace has no more
@@ -76,7 +76,7 @@ module _ (is : List Instruction) (p : Preserved) (s : EntrySet) (links : List En
   tabled_clipped = ap₂ (λ f g. record { waits = f; ahead = g }) (fun_ext waits) (fun_ext (λ i. fun_ext (ahead i)))
 
 -- an entry that is found
-found : (is : List Instruction) (i : ℕ) (x : Instruction) → slice_get is i ≡ Some x → (i < length is) × (instruction_at is i ≡ x)
+pub found : (is : List Instruction) (i : ℕ) (x : Instruction) → slice_get is i ≡ Some x → (i < length is) × (instruction_at is i ≡ x)
 found is i x h = (slice_get_within is i x h, get_or_from_slice_get is i x _ h)
 
 module _ (is : List Instruction) (e i : ℕ) (x y : Instruction) (at_i : slice_get is i ≡ Some x) (at_e : slice_get is e ≡ Some y)

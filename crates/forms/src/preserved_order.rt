@@ -10,5 +10,5 @@ use traces::Trace;
 pub struct PreservedOrder<'a, M: MemoryModel> {
     pub(crate) trace: &'a Trace,
     pub(crate) model: &'a M,
-    ghost laws: { Laws (instructions_of trace.now) (order_of M.MemoryModel model.now trace.now) },
+    pub ghost laws: { Laws (instructions_of trace.now) (order_of M.MemoryModel model.now trace.now) },
 }

@@ -18,7 +18,7 @@ pso_rmo : (i j : Access) → rmo.ahead i j ≡ true → pso.ahead i j ≡ true
 pso_rmo i j h = search arith
 
 -- a model is at least as strict as those with no smaller number
-chain : (a b : ModelName) → model_number a ≤ model_number b → AtLeastAsStrict (standard a) (standard b)
+pub chain : (a b : ModelName) → model_number a ≤ model_number b → AtLeastAsStrict (standard a) (standard b)
 chain Sc b l i j h = refl
 chain Tso Sc l i j h = absurd (omega arith)
 chain Tso Tso l i j h = h
@@ -41,7 +41,7 @@ abbrev store : ℕ → Access
 store n = record { kind = Store; address = address n }
 
 -- and as no other: a pair shows it
-chained : (a b : ModelName) → AtLeastAsStrict (standard a) (standard b) → model_number a ≤ model_number b
+pub chained : (a b : ModelName) → AtLeastAsStrict (standard a) (standard b) → model_number a ≤ model_number b
 unfolding load
 chained Sc b h = omega arith
 chained Tso Sc h = absurd (both_ways _ refl (h (store 0) load refl))

@@ -59,7 +59,7 @@ first_step b (c ∷ bs) false h =
     ap (into_first b) (h (omega arith)) ∙ (λ i. take (sym (one-add n) i) (b ∷ c ∷ bs) ∷ lines_of (drop (e i) (b ∷ c ∷ bs)))
 
 -- the lines of a text are its first line and those behind it
-lines_first : (bs : List ℕ) → 0 < length bs → lines_of bs ≡ before_first feed bs ∷ lines_of (after_first feed bs)
+pub lines_first : (bs : List ℕ) → 0 < length bs → lines_of bs ≡ before_first feed bs ∷ lines_of (after_first feed bs)
 unfolding lines_of
 lines_first [] h = absurd (omega arith)
 lines_first (b ∷ bs) h = first_step b bs (eqb b 10) (lines_first bs)

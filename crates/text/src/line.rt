@@ -112,6 +112,7 @@ impl Located<'_> {
 
 impl Reader<'_> {
     // Reads the parts of a form, one token each.
+    #[inline(always)]
     #[tactic(auto, using(crate::proofs::Parting::parts_more, crate::proofs::Parting::parts_all))]
     fn parts(&mut self, form: &[Part], start: Fields) -> Result<Fields, Fault>
         ensures { Gives (parts form.now start (at self.old)) result (at self.new) }
@@ -125,6 +126,7 @@ impl Reader<'_> {
     }
 
     // The statement of a kind whose parts are the rest of the line.
+    #[inline(always)]
     fn finish(mut self, kind: Kind, form: &[Part], fields: Fields) -> Result<Statement, Fault>
         ensures { result ≡ statement kind (parts form.now fields (at self.entry)) }
     {
@@ -133,6 +135,7 @@ impl Reader<'_> {
     }
 
     // What stands behind the address of a load or a store.
+    #[inline(always)]
     fn access(mut self, fields: Fields) -> Result<Statement, Fault>
         ensures { result ≡ accessed fields (at self.entry) }
     {

@@ -1,6 +1,6 @@
 -- Slots and first appearances, for every type of element with a test of sameness.
-use Rattle.std.proofs.Common.{◌≡◌, ℕ, zero, suc, ◌+◌, ◌<◌, ◌≤◌, max, Bool, true, false, cond, ltb, List, [], ◌∷◌, ◌++◌, length, get_or, take, drop, Some, None, Option, sym, refl, ap, ◌∙◌, ⊎_elim, arith}
-use Rattle.std.proofs.lemmas.List.{append_assoc, append-nil, length_push, get_or_append_left, take_at, take-append-drop}
+use Rattle.std.proofs.Common.{◌≡◌, ℕ, zero, suc, ◌+◌, ◌<◌, ◌≤◌, max, Bool, true, false, cond, ltb, List, [], ◌∷◌, ◌++◌, length, get_or, take, drop, Some, None, Option, sym, refl, ap, ◌∙◌, subst, ⊎_elim, arith}
+use Rattle.std.proofs.lemmas.List.{append_assoc, append-nil, length_push, get_or_push, get_or_append_left, take_at, take-append-drop}
 use Rattle.std.proofs.lemmas.Bool.{cases_Bool, cases_lt, cond-true, cond-false, ltb-true, ltb-false, both_ways}
 use Rattle.traces.specs.First.{FirstOrEnd}
 use Rattle.traces.specs.Slots.{slot, listed, listed_if_any, appearing, Distinct}
@@ -119,6 +119,35 @@ module _ {X : Type 0} (same : X → X → Bool) where
     -- the slot of an element of a list without repeats is its place
     pub slot_own : (d : X) (xs : List X) → Distinct d xs → (i : ℕ) → i < length xs → slot same xs (get_or xs i d) ≡ i
     slot_own d xs distinct i h = slot_found xs (get_or xs i d) d i h refl (λ k l e. distinct k i (l, h) e)
+
+    -- elements still differ when a new one comes
+    pub distinct_push : (d : X) (xs : List X) (x : X) → Distinct d xs → length xs ≤ slot same xs x → Distinct d (xs ++ x ∷ [])
+    distinct_push d xs x distinct new i j h e =
+        let small : i < length xs = omega (arith, h.0, h.1, length_push xs x) in
+        ⊎_elim
+        (λ old. distinct i j (h.0, old) (sym (get_or_append_left xs (x ∷ []) d i small) ∙ e ∙ get_or_append_left xs (x ∷ []) d j old))
+        (λ past.
+        let at : length xs ≡ j = omega (arith, h.1, length_push xs x) in
+        let same-x : get_or xs i d ≡ x = sym (get_or_append_left xs (x ∷ []) d i small) ∙ e ∙ get_or_push xs x d j at in
+        let there : slot same xs x ≡ i = ap (slot same xs) (sym same-x) ∙ slot_own d xs distinct i small in
+        omega arith)
+        (cases_lt j (length xs))
+
+    pub distinct_listed : (d : X) (xs : List X) (x : X) → Distinct d xs → Distinct d (listed same xs x)
+    distinct_listed d xs x distinct =
+        ⊎_elim
+        (λ t. subst (Distinct d) (sym (cond-true _ xs (xs ++ x ∷ []) t)) distinct)
+        (λ f. subst (Distinct d) (sym (cond-false _ xs (xs ++ x ∷ []) f)) (distinct_push d xs x distinct (ltb-false _ _ f)))
+        (cases_Bool (ltb (slot same xs x) (length xs)))
+
+    pub distinct_joined : (d : X) (xs : List X) (o : Option X) → Distinct d xs → Distinct d (listed_if_any same xs o)
+    distinct_joined d xs None distinct = distinct
+    distinct_joined d xs (Some x) distinct = distinct_listed d xs x distinct
+
+    -- elements that are listed by first appearance differ
+    pub distinct_appearing : {Y : Type 0} (brings : Y → Option X) (d : X) (xs : List X) (ys : List Y) → Distinct d xs → Distinct d (appearing same brings xs ys)
+    distinct_appearing brings d xs [] distinct = distinct
+    distinct_appearing brings d xs (y ∷ ys) distinct = distinct_appearing brings d (listed_if_any same xs (brings y)) ys (distinct_joined d xs (brings y) distinct)
 
     -- an element's slot is the same in the list so far and in the list of all that appears
     pub slot_appearing : {Y : Type 0} (brings : Y → Option X) (xs : List X) (ys : List Y) (x : X) → slot same (appearing same brings (listed same xs x) ys) x ≡ slot same xs x

@@ -36,7 +36,13 @@ impl Draft {
         ensures { Leaves (added (instructions self.old.contents) thread kind address read written) (instructions self.old.contents) result (instructions self.new.contents) }
     {
         let kind = Kind::try_from(kind)?;
-        self.push(Instruction::new(thread, kind, address, read, written))
+        self.push(Instruction {
+            thread,
+            kind,
+            address,
+            read,
+            written,
+        })
     }
 
     // Adds an instruction at the end, without what its kind lacks, or refuses it and leaves the draft as it was.

@@ -45,7 +45,8 @@ impl<T: Eq + Copy, const ROOM: usize> Slots<T, ROOM> {
     pub(crate) fn enlist(&mut self, brought: Option<T>, slot: usize)
         requires found { SlotOf (λ y x r. r ≡ T.eq y x) self.old.items.items brought slot }
         requires free { slot < ROOM }
-        ensures { self.new.items.items ≡ grown self.old.items.items brought slot }
+        ensures items { self.new.items.items ≡ grown self.old.items.items brought slot }
+        ensures capacity { vec_capacity self.new.items ≡ vec_capacity self.old.items }
     {
         if let Some(x) = brought {
             if slot >= self.items.len() {

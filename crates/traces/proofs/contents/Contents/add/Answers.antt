@@ -60,10 +60,10 @@ module _ (c : After-push_reserved) where
   address_slot_found = slot_free same_address same_addresses (address 0) 16 ds (address_in (normalized i)) _ location c.slot_of-2.result c.slot_of-2.ensures TooManyAddresses _ (sym c.ok_or-2.ensures.value ∙ c.in_ok-address_slot.was)
 
   threads_now : vec_items c.enlist.new.self.items ≡ more_threads ts ds es i.thread i.kind i.address i.read i.written
-  threads_now = c.enlist.ensures ∙ ap (λ o. grown ts o c.in_ok-thread_slot.thread_slot) thread ∙ grown_joined eqb ts (Some i.thread) c.in_ok-thread_slot.thread_slot thread_slot_found.0
+  threads_now = c.enlist.ensures.items ∙ ap (λ o. grown ts o c.in_ok-thread_slot.thread_slot) thread ∙ grown_joined eqb ts (Some i.thread) c.in_ok-thread_slot.thread_slot thread_slot_found.0
 
   addresses_now : vec_items c.enlist-2.new.self.items ≡ more_addresses ts ds es i.thread i.kind i.address i.read i.written
-  addresses_now = c.enlist-2.ensures ∙ ap (λ o. grown ds o c.in_ok-address_slot.address_slot) location ∙ grown_joined same_address ds (address_in (normalized i)) c.in_ok-address_slot.address_slot address_slot_found.0
+  addresses_now = c.enlist-2.ensures.items ∙ ap (λ o. grown ds o c.in_ok-address_slot.address_slot) location ∙ grown_joined same_address ds (address_in (normalized i)) c.in_ok-address_slot.address_slot address_slot_found.0
 
   entries_now : vec_items c.push_reserved.new.self ≡ more_entries ts ds es i.thread i.kind i.address i.read i.written
   entries_now =
