@@ -13,11 +13,11 @@ use models::MemoryModel;
 use traces::Trace;
 
 impl<'a, M: MemoryModel> PreservedOrder<'a, M> {
-    // How many entries keep ahead of entry j.
+    // How many entries keep ahead of entry j. Ones are summed, of which LLVM makes one loop; it makes two of a filter's count.
     fn kept_before(&self, j: usize) -> usize
         ensures { result ≡ kept_before (traced_by self.now) (kept_by self.now) j }
     {
-        (0..j).filter(|i| self.keeps_ahead(*i, j)).count()
+        (0..j).map(|i| usize::from(self.keeps_ahead(i, j))).sum()
     }
 
     // How many pairs of entries of one thread are kept in their sequence.

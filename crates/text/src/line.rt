@@ -127,8 +127,8 @@ impl Reader<'_> {
 
     // The statement of a kind whose parts are the rest of the line.
     #[inline(always)]
-    fn finish(mut self, kind: Kind, form: &[Part], fields: Fields) -> Result<Statement, Fault>
-        ensures { result ≡ statement kind (parts form.now fields (at self.entry)) }
+    fn finish(&mut self, kind: Kind, form: &[Part], fields: Fields) -> Result<Statement, Fault>
+        ensures { result ≡ statement kind (parts form.now fields (at self.old)) }
     {
         let fields = self.parts(form, fields)?;
         Ok(Statement { kind, fields })
@@ -136,8 +136,8 @@ impl Reader<'_> {
 
     // What stands behind the address of a load or a store.
     #[inline(always)]
-    fn access(mut self, fields: Fields) -> Result<Statement, Fault>
-        ensures { result ≡ accessed fields (at self.entry) }
+    fn access(&mut self, fields: Fields) -> Result<Statement, Fault>
+        ensures { result ≡ accessed fields (at self.old) }
     {
         let located = self.next_token();
         match located.token {
@@ -152,8 +152,8 @@ impl Reader<'_> {
     }
 
     // What stands behind the `<` of a swap.
-    fn swap(self, fields: Fields) -> Result<Statement, Fault>
-        ensures { result ≡ statement Swap (parts swap_parts fields (at self.entry)) }
+    fn swap(&mut self, fields: Fields) -> Result<Statement, Fault>
+        ensures { result ≡ statement Swap (parts swap_parts fields (at self.old)) }
     {
         let swap = [
             Part::Fixed(Symbol::Memory),
@@ -176,8 +176,8 @@ impl Reader<'_> {
     }
 
     // What stands behind the thread number and the colon.
-    fn body(mut self, fields: Fields) -> Result<Statement, Fault>
-        ensures { result ≡ body fields (at self.entry) }
+    fn body(&mut self, fields: Fields) -> Result<Statement, Fault>
+        ensures { result ≡ body fields (at self.old) }
     {
         let located = self.next_token();
         match located.token {
