@@ -81,7 +81,7 @@ found is i x h = (slice_get_within is i x h, get_or_from_slice_get is i x _ h)
 
 module _ (is : List Instruction) (e i : ℕ) (x y : Instruction) (at_i : slice_get is i ≡ Some x) (at_e : slice_get is e ≡ Some y)
     (below : i < e) (thread : x.thread ≡ y.thread) where
-  earlier_found : is_earlier is i e ≡ true
+  pub earlier_found : is_earlier is i e ≡ true
   earlier_found =
       let a = found is i x at_i in
       let b = found is e y at_e in
